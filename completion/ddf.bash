@@ -31,6 +31,11 @@ _ddf_behind() {
     label:1)
         _ddf_offer_images "$cur"
         [[ linux != "$cur"* ]] || COMPREPLY+=(linux)
+        [[ large != "$cur"* ]] || COMPREPLY+=(large)
+        ;;
+    label:2)
+        _ddf_offer_images "$cur" "${@:2}"
+        [[ $2 != linux || large != "$cur"* ]] || COMPREPLY+=(large)
         ;;
     label:*) _ddf_offer_images "$cur" "${@:2}" ;;
     fail:1 | spare:1 | copyback:2) _ddf_offer_images "$cur" ;;

@@ -47,6 +47,12 @@ function __ddf_labels
     test "$behind[1]" = label
 end
 
+# Whether the word of a label's size may be next.
+function __ddf_sized
+    set -l behind (__ddf_behind)
+    test "$behind" = label; or test "$behind" = 'label linux'
+end
+
 # The images of the call that aren't named behind the command.
 function __ddf_images
     set -l given (commandline -opc)
@@ -85,6 +91,7 @@ complete -c ddf -n __ddf_wants_command -a import -d 'Take the disks and arrays o
 complete -c ddf -n __ddf_wants_command -a batch -d 'Do the commands on the lines of standard input'
 
 complete -c ddf -n '__ddf_at label 1' -a linux -d "Disks that Linux's mdadm takes"
+complete -c ddf -n '__ddf_sized' -a large -d 'Disks of a group of up to 63'
 complete -c ddf -n '__ddf_labels; or __ddf_at fail 1; or __ddf_at spare 1; or __ddf_at copyback 2' -a '(__ddf_images)'
 complete -c ddf -n '__ddf_at spare 2' -a 'global revertible for off'
 complete -c ddf -n '__ddf_at create 2' -a 'raid0 raid1 raid1e.adjacent raid1e.offset raid4.first raid4.last raid5.r0 raid5.rn raid5.rnc jbod concat'

@@ -609,9 +609,15 @@ ends 0 "ok" "" "./ddf a0.img a1.img a2.img -- create w raid1 0 single 0,1@$room"
 group a
 truncate -s 1M small.img
 ends 1 "refused 28 small 33000 2048" "slot 0 (small.img) has 2048 sectors of the 33000 that it needs" "./ddf small.img -- label"
-rm -f m?.img m1?.img
-truncate -s 17M m0.img m1.img m2.img m3.img m4.img m5.img m6.img m7.img m8.img m9.img m10.img m11.img m12.img m13.img m14.img m15.img
-ends 1 "refused 21 full disks" "16 disks are named, and a group has at most 15" "./ddf m?.img m1?.img -- label"
+many=$(seq -f m%g.img 0 63)
+# shellcheck disable=SC2086
+rm -f $many
+# shellcheck disable=SC2086
+truncate -s 17M $many
+ends 1 "refused 21 full disks" "64 disks are named, and a group has at most 63" "./ddf m?.img m??.img -- label"
+truncate -s $((33000 * 512)) m9.img
+ends 1 "refused 28 small 33320 33000" "slot 9 (m9.img) has 33000 sectors of the 33320 that it needs" "./ddf m?.img m1?.img -- label"
+ends 1 "refused 28 small 33320 33000" "slot 0 (m9.img) has 33000 sectors of the 33320 that it needs" "./ddf m9.img -- label large"
 printf 'spare 2 global\ndelete w\nshow\nexamine\nspare 9 off\n\n' >lines
 ends 1 "ok sequence" "line 2 (delete w) was refused" "./ddf a0.img a1.img a2.img -- batch <lines"
 says "line 5 (spare 9 off) was refused"

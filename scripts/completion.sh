@@ -33,8 +33,10 @@ ddf d0.img d1.img -- |$all
 ddf d0.img -- s|$(grep '^s' "$work/commands" | tr '\n' ' ')
 ddf d0.img -- @4c69 |$over
 ddf d0.img -- @4c69 create a raid0 0 st|striped
-ddf d0.img d1.img -- label |d0.img d1.img linux
-ddf d0.img d1.img -- label linux |d0.img d1.img
+ddf d0.img d1.img -- label |d0.img d1.img large linux
+ddf d0.img d1.img -- label linux |d0.img d1.img large
+ddf d0.img d1.img -- label linux la|large
+ddf d0.img d1.img -- label large |d0.img d1.img
 ddf d0.img d1.img -- label d0.img |d1.img
 ddf d0.img d1.img -- create |
 ddf d0.img d1.img -- create a |$levels
@@ -61,7 +63,7 @@ ddf d0.img d1|d1.img
 ddf --c|--careful
 ddf --careful d|d0.img d1.img
 ddf --careful d0.img d1.img -- fail |d0.img d1.img
-ddf --yes d0.img d1.img -- label |d0.img d1.img linux
+ddf --yes d0.img d1.img -- label |d0.img d1.img large linux
 ddf-check --|--group --help --quiet --scrub
 ddf-check --q|--quiet
 ddf-check d0.img d1|d1.img

@@ -419,7 +419,18 @@ ends 0 "ok sequence 2" "" "./ddf linux -- spare linux global"
 silent_on_linux
 ends 1 "refused 11 slot 1" "" "./ddf enough.img ./linux -- label linux"
 silent_on_linux
-echo "edge: the word linux is told from an image of that name"
+once="label doesn't take the argument large: it wants large once, first or directly behind linux, and a slot's number or image there"
+ends 2 "refused 10 word 4" "$once" "./ddf enough.img -- label large large"
+ends 2 "refused 10 word 4" "$once" "./ddf enough.img -- label 0 large"
+truncate -s 64M ./large
+taken="ddf: large is taken for the image of slot 1: with ./large for that image it makes disks of a large group"
+ends 1 "refused 14 no slot 5" "$taken" "./ddf enough.img large -- label large 5"
+ends 1 "refused 14 no slot 5" "$taken" "./ddf enough.img large -- label linux large 5"
+ends 0 "ok sequence 1" "$taken" "./ddf enough.img large -- label large"
+ends 0 "slot 0 blank" "" "./ddf enough.img large -- examine"
+ends 0 "ok sequence 1" "" "./ddf enough.img ./large -- label large 0"
+rm -f ./large
+echo "edge: the words linux and large are told from images of these names"
 
 if command -v script >/dev/null; then
     truncate -s 32M t.img

@@ -235,6 +235,32 @@ def compare_arrays(group, sequence, arrays, held, states, spares=()):
         compare(disk, group, sequence, 15 + 2 * count + 2 * (disk in spares), lines, states)
 
 
+def follow_large():
+    """Large groups: one of 17 disks, with an array over all of them, and one of two disks that `large` makes."""
+    disks = make([f"w{number}.img" for number in range(17)])
+    change(disks, 1, "label", "linux")
+    group = group_of(disks)
+
+    # A disk keeps 33169 sectors of its 131072 behind what arrays may use, and its table has room for 63 disks.
+    size = "48951K"
+    for disk in (disks[0], disks[16]):
+        compare(disk, group, 1, 15, [], [(size, "/Online")] * 17)
+    numbers = range(17)
+    change(disks, 2, "create", "wide", "raid0", "3", "single", ",".join(str(number) for number in numbers) + "@4096")
+    places = " ".join(f"{number}@0K" for number in numbers)
+    wide = f"wide; Optimal, Consistent; Not Initialised; RAID0; single; 34816K; 17 ({places})"
+    for disk in (disks[0], disks[16]):
+        compare(disk, group, 2, 17, [wide], [(size, "active/Online")] * 17)
+
+    two = make([f"v{number}.img" for number in range(2)])
+    change(two, 1, "label", "linux", "large")
+    group = group_of(two)
+    change(two, 2, "create", "mir", "raid1", "0", "single", "0,1@128")
+    mir = "mir; Optimal, Not Consistent; Not Initialised; RAID1; single; 64K; 2 (0@0K 1@0K)"
+    for disk in two:
+        compare(disk, group, 2, 17, [mir], [(size, "active/Online")] * 2)
+
+
 def follow_spare():
     """A revertible spare, from its record until it gives its place back: mdadm takes it for a global one, and for none while it stands in."""
     disks = make([f"s{number}.img" for number in range(4)])
@@ -329,6 +355,7 @@ def main():
     with tempfile.TemporaryDirectory() as work:
         os.chdir(work)
         follow_group()
+        follow_large()
         follow_spare()
         name_untaken()
         refuse_plain()

@@ -181,7 +181,7 @@ fn complete_words<R>(rt: &R, words: &mut Vec<String>) -> Result<(), Failure>
 where
     R: Files<File = File> + Clock + Eprint + AllocGlobal + Clone + Drop,
 {
-    let founds = made_for_linux(&Command::Show);
+    let founds = made_for_linux(&Command::Show, 0);
     let mut disks = open(rt, slot_paths(words), &Command::Show, founds)?;
     complete(rt, &mut disks, words)?;
     Ok(())
@@ -254,9 +254,10 @@ where
     let makes_names = kind == Kind::Batch || asked.command.traits().makes_names;
     let stamp = stamp_for(rt, makes_names).map_err(Failure::Chance)?;
 
-    // argued: that the program makes the bay for `label linux`, and for nothing else, for this line alone makes the bay that a command gets, by the
+    // argued: that the program makes the bay for `label linux`, and for nothing else, for these lines alone make the bay that a command gets, by the
     // command itself.
-    let disks = open(rt, paths, &asked.command, made_for_linux(&asked.command))?;
+    let founds = made_for_linux(&asked.command, paths.len());
+    let disks = open(rt, paths, &asked.command, founds)?;
     name_ranges(rt, &disks, paths, &asked.command);
     let ends = ends_of(&disks);
     let (disks, ending) = serve_on(rt, words, asked, kind, person, disks, ends, stamp)?;

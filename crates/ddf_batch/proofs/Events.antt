@@ -69,7 +69,7 @@ module _ {B : Type 0} (tells : Type 0) (disks : B → BayState B) (told : Type 0
       → IsCommandDone (work_of tells (disks from.bay) (disks to.bay)) no_input stamp group command (answer_of told from.output to.output code)
       → LineTook tells disks stamp group command from to code
   line_took Examine line writes joins done = absurd (false≢true line)
-  line_took (Label style slots) line writes joins done = absurd (false≢true line)
+  line_took (Label style large slots) line writes joins done = absurd (false≢true line)
   line_took (Read name start count) line writes joins done = absurd (false≢true line)
   line_took (Write name start count) line writes joins done = absurd (false≢true line)
   line_took (Import other) line writes joins done = absurd (false≢true (sym joins))

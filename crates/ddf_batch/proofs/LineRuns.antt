@@ -59,7 +59,7 @@ module _ {D : Type 0} (traits : Traits) (work : Work D) (answer : Answer) (rose 
 -- a line's command takes no input
 pub takes_none : (command : Command) → is_for_lines command ≡ true → (traits_of command).takes_input ≡ false
 takes_none Examine is = refl
-takes_none (Label style slots) is = refl
+takes_none (Label style large slots) is = refl
 takes_none Assemble is = refl
 takes_none Show is = refl
 takes_none (Read name start count) is = refl

@@ -236,13 +236,13 @@ pub done_nothing : {D : Type 0} (old : BayState D) (tells told : Type 0) (before
 done_nothing old tells told before reads input stamp group Examine = nothing_done old tells told before
 done_nothing old tells told before reads input stamp group Assemble = assembled_nothing old tells told before group (timestamp_of stamp) (none_looked old)
 done_nothing old tells told before reads input stamp group Show = shown_nothing old tells told before group (none_looked old)
-done_nothing old tells told before reads input stamp group (Label style slots) = record {
+done_nothing old tells told before reads input stamp group (Label style large slots) = record {
   outcome = Err Memory;
   tried = reads_start old;
   ends = (refl, λ told. refl);
   unfailed = tt;
-  any_moment = λ tells. stops_start old (IsLeftFoundingAll old (label_slots old.sizes slots) (label_copy (revision_of style) stamp old.sizes slots));
-  costs = writes_most (label_sectors label_layout * length (label_slots old.sizes slots)) (omega arith) (none_written (work_of tells old old) (reads_start old));
+  any_moment = λ tells. stops_start old (IsLeftFoundingAll old (label_slots old.sizes slots) (label_copy large (revision_of style) stamp old.sizes slots));
+  costs = writes_most (label_sectors (label_layout large old.sizes slots) * length (label_slots old.sizes slots)) (omega arith) (none_written (work_of tells old old) (reads_start old));
   refused = λ tells refusal is. reads_start old;
 }
 done_nothing old tells told before reads input stamp group (Read name start count) = record {

@@ -1,5 +1,5 @@
 -- A `label` is aside of another group's history.
-use Rattle.std.proofs.Common.{◌≡◌, ℕ, true, false, List, refl, ap, sym, ◌∙◌, inl, inr, subst, arith, Some}
+use Rattle.std.proofs.Common.{◌≡◌, ℕ, Bool, true, false, List, refl, ap, sym, ◌∙◌, inl, inr, subst, arith, Some}
 use Rattle.std.proofs.lemmas.Bool.{and_parts, false≢true}
 use Rattle.std.specs.Prelude.{slice_get}
 use Rattle.std.specs.Str.{bytes_eq}
@@ -33,14 +33,14 @@ use Rattle.ddf_disk_commands.proofs.Chosen.{chosen_once}
 
 module _ {B : Type 0} {tells : Type 0} (told : tells) (disks : B → BayState B) (group : List ℕ)
     (only_now : (bay : B) (image : Image) → (disks bay).left_since (disks bay).moment image → IsLeft (disks bay).may_hold image)
-    (old : Moment (groups group) B) (exit : B) (revision : Revision) (stamp : Stamp) (named : List ℕ)
-    (any_moment : StopsLeave (disks old.bay) (disks exit) (IsLeftFoundingAll (disks old.bay) (label_slots (disks old.bay).sizes named) (label_copy revision stamp (disks old.bay).sizes named)))
+    (old : Moment (groups group) B) (exit : B) (large : Bool) (revision : Revision) (stamp : Stamp) (named : List ℕ)
+    (any_moment : StopsLeave (disks old.bay) (disks exit) (IsLeftFoundingAll (disks old.bay) (label_slots (disks old.bay).sizes named) (label_copy large revision stamp (disks old.bay).sizes named)))
     (is_held : IsLeft (disks old.bay).may_hold (disks old.bay).held)
     (another : bytes_eq group (group_of stamp) ≡ false)
     (aside : (image : Image) → IsLeft (disks old.bay).may_hold image → (slot : ℕ) → is_slot (label_slots (disks old.bay).sizes named) slot ≡ true
     → IsAside old.past slot (scene_of (disks old.bay).sizes image slot))
     (names_none : (place slot number : ℕ) (config : Configuration) → slice_get (label_slots (disks old.bay).sizes named) place ≡ Some slot → IsSince old.past.changes number config
-    → has_current config (disk_of (view_of (label_copy revision stamp (disks old.bay).sizes named place))) ≡ true → ⊥) where
+    → has_current config (disk_of (view_of (label_copy large revision stamp (disks old.bay).sizes named place))) ≡ true → ⊥) where
   abbrev entry : BayState B
   entry = disks old.bay
 
@@ -48,14 +48,14 @@ module _ {B : Type 0} {tells : Type 0} (told : tells) (disks : B → BayState B)
   slots = label_slots entry.sizes named
 
   abbrev copy : ℕ → DiskCopy
-  copy = label_copy revision stamp entry.sizes named
+  copy = label_copy large revision stamp entry.sizes named
 
   are : AreSlots entry.sizes slots
   are = chosen_once entry.sizes named
 
   -- what the copy at a place says
   abbrev says : (place : ℕ) → View
-  says place = view_at label_layout revision stamp (slot_sizes entry.sizes slots) place
+  says place = view_at (label_layout large entry.sizes named) revision stamp (slot_sizes entry.sizes slots) place
 
   module _ (image : Image) (left : IsLeftFoundingAll entry slots copy image) (slot : ℕ) (among : is_slot slots slot ≡ true) where
     abbrev shown : Shown View
@@ -69,9 +69,9 @@ module _ {B : Type 0} {tells : Type 0} (told : tells) (disks : B → BayState B)
 
     as_before : ((l : ℕ) → entry.may_hold slot l (image slot l)) → IsAside old.past slot shown
     as_before may =
-        subst (IsAside old.past slot) (sym (same_shown label_layout revision stamp entry slots are is_held image slot))
-        (aside (beside label_layout revision stamp entry slots are is_held image slot)
-        (beside_left label_layout revision stamp entry slots are is_held image slot may) slot among)
+        subst (IsAside old.past slot) (sym (same_shown (label_layout large entry.sizes named) revision stamp entry slots are is_held image slot))
+        (aside (beside (label_layout large entry.sizes named) revision stamp entry slots are is_held image slot)
+        (beside_left (label_layout large entry.sizes named) revision stamp entry slots are is_held image slot may) slot among)
 
     blank_aside : shown ≡ Nothing → IsAside old.past slot shown
     blank_aside nothing =
@@ -87,7 +87,7 @@ module _ {B : Type 0} {tells : Type 0} (told : tells) (disks : B → BayState B)
         let ours = (and_parts (bytes_eq group one.group) ((groups group).lists_current one (disk_of one)) standing).0 in
         false≢true (sym another ∙ sym (ap (λ (view : View). bytes_eq group view.group) (own one is)) ∙ ours))
         (λ one number config is since current.
-        let same = own one is ∙ sym (new_view label_layout revision stamp (slot_sizes entry.sizes slots) place) in
+        let same = own one is ∙ sym (new_view (label_layout large entry.sizes named) revision stamp (slot_sizes entry.sizes slots) place) in
         names_none place slot number config at since (ap (λ (view : View). has_current config (disk_of view)) (sym same) ∙ current))
 
     left_aside : IsAside old.past slot shown
@@ -96,8 +96,8 @@ module _ {B : Type 0} {tells : Type 0} (told : tells) (disks : B → BayState B)
         elim (left.each place.0 slot place.1) [
           | inl before ↦ as_before before
           | inr now ↦ elim now [
-            | inl blank ↦ blank_aside (blank_there label_layout revision stamp entry slots are is_held image place.0 slot place.1 blank)
-            | inr both ↦ copy_aside place.0 place.1 (copy_there label_layout revision stamp entry slots are is_held image place.0 slot place.1 both)
+            | inl blank ↦ blank_aside (blank_there (label_layout large entry.sizes named) revision stamp entry slots are is_held image place.0 slot place.1 blank)
+            | inr both ↦ copy_aside place.0 place.1 (copy_there (label_layout large entry.sizes named) revision stamp entry slots are is_held image place.0 slot place.1 both)
           ]
         ]
 

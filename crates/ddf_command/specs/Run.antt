@@ -39,7 +39,7 @@ TakesNoInput words = (asked : Asked) → IsAsked words asked → (traits_of aske
 -- the command was done, over the named group or the only one, or it told why not, or was cut short
 abbrev pub IsCommandDone : {D : Type 0} → Work D → Input → Stamp → (group : Option (List ℕ)) → Command → Answer → Type 0
 IsCommandDone work input stamp group Examine answer = IsExamined work answer
-IsCommandDone work input stamp group (Label style slots) answer = IsLabelled work (revision_of style) stamp slots answer
+IsCommandDone work input stamp group (Label style large slots) answer = IsLabelled work large (revision_of style) stamp slots answer
 IsCommandDone work input stamp group Assemble answer = IsAssembleDone work group (timestamp_of stamp) answer
 IsCommandDone work input stamp group Show answer = IsShown work group answer
 IsCommandDone work input stamp group (Read name start count) answer = IsReadDone work group name start count answer

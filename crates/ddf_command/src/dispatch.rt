@@ -103,7 +103,11 @@ pub fn obey<B: Bay, S: Source, K: Sink>(
 {
     match command {
         Command::Examine => examine(alloc, bay, sink),
-        Command::Label { style, slots } => label(alloc, style, slots.items(), bay, sink, stamp),
+        Command::Label {
+            style,
+            large,
+            slots,
+        } => label(alloc, style, large, slots.items(), bay, sink, stamp),
         Command::Assemble => assemble_disks(alloc, group, bay, sink, stamp),
         Command::Show => show(alloc, group, bay, sink),
         Command::Read { name, start, count } => {

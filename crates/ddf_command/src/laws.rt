@@ -85,12 +85,12 @@ pub fn an_import_is_an_event_of_its_history<B: Bay>()
 /// A history of a new group begins where a `label` was done: whatever a stop may leave then shows the group on each of its disks. The names
 /// of the group and of its disks are new, so that no other slot shows them.
 pub fn a_label_begins_a_history<B: Bay>()
-    ensures { (told : B.tells) (revision : Revision) (stamp : Stamp) (named : List ℕ) (old new : B) → IsTried (work_of B.tells (B.disks old) (B.disks new)) revision stamp named (Ok tt)
+    ensures { (told : B.tells) (large : Bool) (revision : Revision) (stamp : Stamp) (named : List ℕ) (old new : B) → IsTried (work_of B.tells (B.disks old) (B.disks new)) large revision stamp named (Ok tt)
         → (B.disks new).sizes ≡ (B.disks old).sizes → IsLeft (B.disks old).may_hold (B.disks old).held
         → ((image : Image) → IsLeft (B.disks old).may_hold image
-        → AreNamesNew (group_of stamp) (is_slot (label_slots (B.disks old).sizes named)) (label_copy revision stamp (B.disks old).sizes named) (scene_of (B.disks old).sizes image))
+        → AreNamesNew (group_of stamp) (is_slot (label_slots (B.disks old).sizes named)) (label_copy large revision stamp (B.disks old).sizes named) (scene_of (B.disks old).sizes image))
         → (past : Past (groups (group_of stamp)))
-        → IsNewGroup (group_of stamp) past (B.disks old).sizes (label_slots (B.disks old).sizes named) (label_copy revision stamp (B.disks old).sizes named) (is_slot (label_slots (B.disks old).sizes named))
+        → IsNewGroup (group_of stamp) past (B.disks old).sizes (label_slots (B.disks old).sizes named) (label_copy large revision stamp (B.disks old).sizes named) (is_slot (label_slots (B.disks old).sizes named))
         → AreAllKept (group_of stamp) past (B.disks new) }
 {}
 
@@ -98,42 +98,42 @@ pub fn a_label_begins_a_history<B: Bay>()
 /// The names of the group and of its disks are new, so that no slot showed them before.
 // promise:labelled
 pub fn a_label_cut_short_begins_a_history<B: Bay>()
-    ensures begins { (revision : Revision) (stamp : Stamp) (named : List ℕ) (old new cut : B) (founded : ℕ → Bool) → IsNewLabel (B.disks old) (B.disks new) revision stamp named
-        → IsLeftByLabel (B.disks old) (B.disks new) (B.disks cut) revision stamp named founded
+    ensures begins { (large : Bool) (revision : Revision) (stamp : Stamp) (named : List ℕ) (old new cut : B) (founded : ℕ → Bool) → IsNewLabel (B.disks old) (B.disks new) large revision stamp named
+        → IsLeftByLabel (B.disks old) (B.disks new) (B.disks cut) large revision stamp named founded
         → (past : Past (groups (group_of stamp)))
-        → IsNewGroup (group_of stamp) past (B.disks old).sizes (label_slots (B.disks old).sizes named) (label_copy revision stamp (B.disks old).sizes named) founded
+        → IsNewGroup (group_of stamp) past (B.disks old).sizes (label_slots (B.disks old).sizes named) (label_copy large revision stamp (B.disks old).sizes named) founded
         → AreAllKept (group_of stamp) past (B.disks cut) }
 
     // Whatever a stop left, it is told which slots are founded in it, if any.
-    ensures founded { (revision : Revision) (stamp : Stamp) (named : List ℕ) (old new : B) (image : Image) → IsNewLabel (B.disks old) (B.disks new) revision stamp named
-        → (B.disks new).left_since (B.disks old).moment image → (founded : ℕ → Bool) × AreLabelled (B.disks old) revision stamp named image founded }
+    ensures founded { (large : Bool) (revision : Revision) (stamp : Stamp) (named : List ℕ) (old new : B) (image : Image) → IsNewLabel (B.disks old) (B.disks new) large revision stamp named
+        → (B.disks new).left_since (B.disks old).moment image → (founded : ℕ → Bool) × AreLabelled (B.disks old) large revision stamp named image founded }
 
     // No other slot shows the group, or names a member of it: where none is founded, none does.
-    ensures others { (revision : Revision) (stamp : Stamp) (named : List ℕ) (old new : B) (image : Image) (founded : ℕ → Bool) → IsNewLabel (B.disks old) (B.disks new) revision stamp named
-        → (B.disks new).left_since (B.disks old).moment image → AreLabelled (B.disks old) revision stamp named image founded
-        → AreNamesNew (group_of stamp) founded (label_copy revision stamp (B.disks old).sizes named) (scene_of (B.disks old).sizes image) }
+    ensures others { (large : Bool) (revision : Revision) (stamp : Stamp) (named : List ℕ) (old new : B) (image : Image) (founded : ℕ → Bool) → IsNewLabel (B.disks old) (B.disks new) large revision stamp named
+        → (B.disks new).left_since (B.disks old).moment image → AreLabelled (B.disks old) large revision stamp named image founded
+        → AreNamesNew (group_of stamp) founded (label_copy large revision stamp (B.disks old).sizes named) (scene_of (B.disks old).sizes image) }
 
     // Assembly of slots of which a founded one is read gives the founding configuration.
-    ensures assembles { (revision : Revision) (stamp : Stamp) (named : List ℕ) (old new cut : B) (founded : ℕ → Bool) → IsNewLabel (B.disks old) (B.disks new) revision stamp named
-        → IsLeftByLabel (B.disks old) (B.disks new) (B.disks cut) revision stamp named founded → IsLeft (B.disks cut).may_hold (B.disks cut).held
+    ensures assembles { (large : Bool) (revision : Revision) (stamp : Stamp) (named : List ℕ) (old new cut : B) (founded : ℕ → Bool) → IsNewLabel (B.disks old) (B.disks new) large revision stamp named
+        → IsLeftByLabel (B.disks old) (B.disks new) (B.disks cut) large revision stamp named founded → IsLeft (B.disks cut).may_hold (B.disks cut).held
         → (left : List Bool) → length left ≡ length (B.disks cut).sizes → (slot : ℕ) → founded slot ≡ true → is_read left slot ≡ true
-        → Gives (B.disks cut) left (group_of stamp) (founding_config (label_copy revision stamp (B.disks old).sizes named)) }
+        → Gives (B.disks cut) left (group_of stamp) (founding_config (label_copy large revision stamp (B.disks old).sizes named)) }
 {}
 
 /// A slot that a `label` founded is a current member at the beginning of the history, as it is asked that one is read, since its disk is a
 /// current member of the founding configuration. Where the label was done all of its slots are founded.
 pub fn a_founded_slot_is_a_current_member<B: Bay>()
-    ensures member { (revision : Revision) (stamp : Stamp) (named : List ℕ) (old bay : B) (founded : ℕ → Bool) → AreLabelled (B.disks old) revision stamp named (B.disks bay).held founded
+    ensures member { (large : Bool) (revision : Revision) (stamp : Stamp) (named : List ℕ) (old bay : B) (founded : ℕ → Bool) → AreLabelled (B.disks old) large revision stamp named (B.disks bay).held founded
         → (past : Past (groups (group_of stamp)))
-        → IsNewGroup (group_of stamp) past (B.disks old).sizes (label_slots (B.disks old).sizes named) (label_copy revision stamp (B.disks old).sizes named) founded
+        → IsNewGroup (group_of stamp) past (B.disks old).sizes (label_slots (B.disks old).sizes named) (label_copy large revision stamp (B.disks old).sizes named) founded
         → (readable : ℕ → Bool) (slot : ℕ) → founded slot ≡ true → readable slot ≡ true
         → HasMember past (scene_of (B.disks old).sizes (B.disks bay).held) readable }
-    ensures done { (told : B.tells) (revision : Revision) (stamp : Stamp) (named : List ℕ) (old new : B) → IsTried (work_of B.tells (B.disks old) (B.disks new)) revision stamp named (Ok tt)
-        → AreLabelled (B.disks old) revision stamp named (B.disks new).held (is_slot (label_slots (B.disks old).sizes named)) }
-    ensures listed { (revision : Revision) (stamp : Stamp) (named : List ℕ) (old bay : B) (founded : ℕ → Bool) → AreLabelled (B.disks old) revision stamp named (B.disks bay).held founded
+    ensures done { (told : B.tells) (large : Bool) (revision : Revision) (stamp : Stamp) (named : List ℕ) (old new : B) → IsTried (work_of B.tells (B.disks old) (B.disks new)) large revision stamp named (Ok tt)
+        → AreLabelled (B.disks old) large revision stamp named (B.disks new).held (is_slot (label_slots (B.disks old).sizes named)) }
+    ensures listed { (large : Bool) (revision : Revision) (stamp : Stamp) (named : List ℕ) (old bay : B) (founded : ℕ → Bool) → AreLabelled (B.disks old) large revision stamp named (B.disks bay).held founded
         → (past : Past (groups (group_of stamp)))
-        → IsNewGroup (group_of stamp) past (B.disks old).sizes (label_slots (B.disks old).sizes named) (label_copy revision stamp (B.disks old).sizes named) founded
-        → (slot : ℕ) → founded slot ≡ true → has_current (founding_config (label_copy revision stamp (B.disks old).sizes named)) (past.disk slot) ≡ true }
+        → IsNewGroup (group_of stamp) past (B.disks old).sizes (label_slots (B.disks old).sizes named) (label_copy large revision stamp (B.disks old).sizes named) founded
+        → (slot : ℕ) → founded slot ≡ true → has_current (founding_config (label_copy large revision stamp (B.disks old).sizes named)) (past.disk slot) ≡ true }
 {}
 
 /// Each seat of the group that a call found was read, and its disk is a current member of the configuration that it found. So was each slot
@@ -188,13 +188,13 @@ pub fn a_calls_changes_keep_members()
 /// disks as they read are one of the images that a stop might have left, its slots were aside in each of these, and the names of its disks are
 /// none that the history counts as current members, its slots stay aside.
 pub fn a_label_is_aside_of_other_histories<B: Bay>()
-    ensures { (told : B.tells) (group : List ℕ) (old : Moment (groups group) B) (exit : B) (revision : Revision) (stamp : Stamp) (named : List ℕ)
-        → StopsLeave (B.disks old.bay) (B.disks exit) (IsLeftFoundingAll (B.disks old.bay) (label_slots (B.disks old.bay).sizes named) (label_copy revision stamp (B.disks old.bay).sizes named))
+    ensures { (told : B.tells) (group : List ℕ) (old : Moment (groups group) B) (exit : B) (large : Bool) (revision : Revision) (stamp : Stamp) (named : List ℕ)
+        → StopsLeave (B.disks old.bay) (B.disks exit) (IsLeftFoundingAll (B.disks old.bay) (label_slots (B.disks old.bay).sizes named) (label_copy large revision stamp (B.disks old.bay).sizes named))
         → IsLeft (B.disks old.bay).may_hold (B.disks old.bay).held → bytes_eq group (group_of stamp) ≡ false
         → ((image : Image) → IsLeft (B.disks old.bay).may_hold image → (slot : ℕ) → is_slot (label_slots (B.disks old.bay).sizes named) slot ≡ true
         → IsAside old.past slot (scene_of (B.disks old.bay).sizes image slot))
         → ((place slot number : ℕ) (config : Configuration) → slice_get (label_slots (B.disks old.bay).sizes named) place ≡ Some slot → IsSince old.past.changes number config
-        → has_current config (disk_of (view_of (label_copy revision stamp (B.disks old.bay).sizes named place))) ≡ true → ⊥)
+        → has_current config (disk_of (view_of (label_copy large revision stamp (B.disks old.bay).sizes named place))) ≡ true → ⊥)
         → (call : OtherCall told B.disks group old) × (call.exit ≡ exit) × (call.written ≡ label_slots (B.disks old.bay).sizes named) }
 {}
 

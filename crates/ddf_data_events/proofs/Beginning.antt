@@ -183,18 +183,18 @@ module _ {D : Type 0} (old new : BayState D) (slots : List ℕ) (copy : ℕ → 
 
 -- ---- a `label` that was cut short
 
-module _ {D : Type 0} (revision : Revision) (stamp : Stamp) (named : List ℕ) (old new cut : BayState D) (only_now : (image : Image) → old.left_since old.moment image → IsLeft old.may_hold image)
-    (label : IsNewLabel old new revision stamp named) (founded : ℕ → Bool) (left_by : IsLeftByLabel old new cut revision stamp named founded) where
+module _ {D : Type 0} (large : Bool) (revision : Revision) (stamp : Stamp) (named : List ℕ) (old new cut : BayState D) (only_now : (image : Image) → old.left_since old.moment image → IsLeft old.may_hold image)
+    (label : IsNewLabel old new large revision stamp named) (founded : ℕ → Bool) (left_by : IsLeftByLabel old new cut large revision stamp named founded) where
   abbrev slots : List ℕ
   slots = label_slots old.sizes named
 
-  left_so : (image : Image) → new.left_since old.moment image → IsLeftFoundingAll old slots (label_copy revision stamp old.sizes named) image
+  left_so : (image : Image) → new.left_since old.moment image → IsLeftFoundingAll old slots (label_copy large revision stamp old.sizes named) image
   left_so image was_left = elim (label.any_moment.since old.moment image (omega arith) was_left) [
-    | inl first ↦ before_founding label_layout revision stamp old slots (chosen_once old.sizes named) label.is_held image (only_now image first)
+    | inl first ↦ before_founding (label_layout large old.sizes named) revision stamp old slots (chosen_once old.sizes named) label.is_held image (only_now image first)
     | inr founding ↦ founding
   ]
 
-  pub cut_shows : (past : Past (groups (name_of stamp))) → IsNewGroup (name_of stamp) past old.sizes slots (label_copy revision stamp old.sizes named) founded → AreAllKept (name_of stamp) past cut
+  pub cut_shows : (past : Past (groups (name_of stamp))) → IsNewGroup (name_of stamp) past old.sizes slots (label_copy large revision stamp old.sizes named) founded → AreAllKept (name_of stamp) past cut
   cut_shows past is_new = λ image left.
       rw left_by.same_sizes
-      (cut_kept label_layout revision stamp old slots (chosen_once old.sizes named) label.is_held image label.names_new (left_so image (left_by.was_left image left)) founded (left_by.are_founded image left) past is_new)
+      (cut_kept (label_layout large old.sizes named) revision stamp old slots (chosen_once old.sizes named) label.is_held image label.names_new (left_so image (left_by.was_left image left)) founded (left_by.are_founded image left) past is_new)

@@ -55,20 +55,20 @@ pub fn a_group_keeps_its_history_and_its_data_at_every_moment<B: Bay, S: Source>
 /// A history of a new group and of its data begins where a `label` was done: there is no array, so that nothing is promised of any, and the disk of
 /// each member has the floor of its new copy. The names of the group and of its disks are new, so that no other slot shows them.
 pub fn a_label_begins_a_history_of_data<B: Bay>()
-    ensures { (told : B.tells) (revision : Revision) (stamp : Stamp) (named : List ℕ) (old new : B) → IsTried (work_of B.tells (B.disks old) (B.disks new)) revision stamp named (Ok tt)
+    ensures { (told : B.tells) (large : Bool) (revision : Revision) (stamp : Stamp) (named : List ℕ) (old new : B) → IsTried (work_of B.tells (B.disks old) (B.disks new)) large revision stamp named (Ok tt)
         → (B.disks new).sizes ≡ (B.disks old).sizes → IsLeft (B.disks old).may_hold (B.disks old).held → (B.disks new).tells_left
         → ((image : Image) → IsLeft (B.disks old).may_hold image
-        → AreNamesNew (name_of stamp) (is_slot (label_slots (B.disks old).sizes named)) (label_copy revision stamp (B.disks old).sizes named) (scene_of (B.disks old).sizes image))
+        → AreNamesNew (name_of stamp) (is_slot (label_slots (B.disks old).sizes named)) (label_copy large revision stamp (B.disks old).sizes named) (scene_of (B.disks old).sizes image))
         → (past : Past (groups (name_of stamp)))
-        → IsNewGroup (name_of stamp) past (B.disks old).sizes (label_slots (B.disks old).sizes named) (label_copy revision stamp (B.disks old).sizes named) (is_slot (label_slots (B.disks old).sizes named))
+        → IsNewGroup (name_of stamp) past (B.disks old).sizes (label_slots (B.disks old).sizes named) (label_copy large revision stamp (B.disks old).sizes named) (is_slot (label_slots (B.disks old).sizes named))
         → Begins (name_of stamp) B.disks past new }
 {}
 
 /// A `label` that a stop cut short begins one too, of the disks that had their copies by then.
 pub fn a_label_cut_short_begins_a_history_of_data<B: Bay>()
-    ensures { (revision : Revision) (stamp : Stamp) (named : List ℕ) (old new cut : B) (founded : ℕ → Bool) → IsNewLabel (B.disks old) (B.disks new) revision stamp named
-        → IsLeftByLabel (B.disks old) (B.disks new) (B.disks cut) revision stamp named founded → (B.disks cut).tells_left → (past : Past (groups (name_of stamp)))
-        → IsNewGroup (name_of stamp) past (B.disks old).sizes (label_slots (B.disks old).sizes named) (label_copy revision stamp (B.disks old).sizes named) founded → Begins (name_of stamp) B.disks past cut }
+    ensures { (large : Bool) (revision : Revision) (stamp : Stamp) (named : List ℕ) (old new cut : B) (founded : ℕ → Bool) → IsNewLabel (B.disks old) (B.disks new) large revision stamp named
+        → IsLeftByLabel (B.disks old) (B.disks new) (B.disks cut) large revision stamp named founded → (B.disks cut).tells_left → (past : Past (groups (name_of stamp)))
+        → IsNewGroup (name_of stamp) past (B.disks old).sizes (label_slots (B.disks old).sizes named) (label_copy large revision stamp (B.disks old).sizes named) founded → Begins (name_of stamp) B.disks past cut }
 {}
 
 /// So does a group from elsewhere that was found whole on disks of which nothing is pending. Nothing is promised of its arrays: what they hold counts

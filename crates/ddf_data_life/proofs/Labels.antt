@@ -1,5 +1,5 @@
 -- A label of all disks of a bay in memory begins a history of the new group and of its data.
-use Rattle.std.proofs.Common.{◌≡◌, ℕ, true, List, [], length, Ok, refl, sym, ap, subst, arith}
+use Rattle.std.proofs.Common.{◌≡◌, ℕ, Bool, true, List, [], length, Ok, refl, sym, ap, subst, arith}
 use Rattle.ddf_bytes.specs.declared.stamp.Stamp.{Stamp}
 use Rattle.ddf_header.specs.declared.kind.Revision.{Revision}
 use Rattle.ddf_bay.specs.Memory.{disks_of}
@@ -23,8 +23,8 @@ use Rattle.ddf_data_events.proofs.Beginning.{all_in, founded_begins}
 use Rattle.ddf_data_life.specs.Histories.{IsDataBegun}
 use Rattle.ddf_data_life.proofs.Memory.{bays, small_sizes}
 
-module _ (revision : Revision) (stamp : Stamp) (old new : MemoryBay)
-    (tried : IsTried (work_of (Unit {0}) (disks_of old) (disks_of new)) revision stamp [] (Ok tt)) (same_sizes : (disks_of new).sizes ≡ (disks_of old).sizes)
+module _ (large : Bool) (revision : Revision) (stamp : Stamp) (old new : MemoryBay)
+    (tried : IsTried (work_of (Unit {0}) (disks_of old) (disks_of new)) large revision stamp [] (Ok tt)) (same_sizes : (disks_of new).sizes ≡ (disks_of old).sizes)
     (told : (disks_of old).tells_left) (told_new : (disks_of new).tells_left) where
   abbrev sizes : List ℕ
   sizes = (disks_of old).sizes
@@ -33,14 +33,14 @@ module _ (revision : Revision) (stamp : Stamp) (old new : MemoryBay)
   slots = label_slots sizes []
 
   abbrev copy : ℕ → DiskCopy
-  copy = label_copy revision stamp sizes []
+  copy = label_copy large revision stamp sizes []
 
   abbrev first : Past (groups (name_of stamp))
   first = labels.begins (name_of stamp) sizes copy
 
   kept : AreAllKept (name_of stamp) first (disks_of new)
   kept =
-      founded_since label_layout revision stamp (disks_of old) (disks_of new) same_sizes slots (chosen_once sizes []) (tried tt).1 first (labels.is_new (name_of stamp) sizes copy)
+      founded_since (label_layout large sizes []) revision stamp (disks_of old) (disks_of new) same_sizes slots (chosen_once sizes []) (tried tt).1 first (labels.is_new (name_of stamp) sizes copy)
       (reads_left old told) (λ image left. labels.names_new sizes (name_of stamp) copy image)
 
   starts : Begins (name_of stamp) disks_of first new
@@ -48,7 +48,7 @@ module _ (revision : Revision) (stamp : Stamp) (old new : MemoryBay)
       founded_begins disks_of bays small_sizes (name_of stamp) first new told_new sizes slots same_sizes copy (is_slot slots) (labels.is_new (name_of stamp) sizes copy)
       (λ image left. all_in (disks_of old) (disks_of new) slots copy (tried tt).1 image left) kept
 
-  pub label_begins : IsDataBegun (name_of stamp) (length (disks_of old).sizes) (label_copy revision stamp (disks_of old).sizes []) new
+  pub label_begins : IsDataBegun (name_of stamp) (length (disks_of old).sizes) (label_copy large revision stamp (disks_of old).sizes []) new
   label_begins = record {
     past = first;
     floor = starts.floor;
@@ -64,5 +64,5 @@ module _ (revision : Revision) (stamp : Stamp) (old new : MemoryBay)
     names = λ slot low. labels.named_in (name_of stamp) sizes copy slot low;
     members = λ slot low number config since.
         let same = labels.only_one (founding_config copy) config number since.is_there in
-        subst (λ (one : Configuration). has_current one (first.disk slot) ≡ true) same (labels.listed revision stamp old new tried same_sizes told slot low);
+        subst (λ (one : Configuration). has_current one (first.disk slot) ≡ true) same (labels.listed large revision stamp old new tried same_sizes told slot low);
   }

@@ -321,7 +321,7 @@ module _ (group : List ℕ) (kept : ℕ) (disk : Disk) where
 
 -- ---- the life
 
-module _ {revision : Revision} {stamp : Stamp} {guid : List ℕ} {kept lost : ℕ} (life : IsLife revision stamp guid kept lost) where
+module _ {large : Bool} {revision : Revision} {stamp : Stamp} {guid : List ℕ} {kept lost : ℕ} (life : IsLife large revision stamp guid kept lost) where
   abbrev group : List ℕ
   group = name_of stamp
 
@@ -329,7 +329,7 @@ module _ {revision : Revision} {stamp : Stamp} {guid : List ℕ} {kept lost : �
   sizes = (disks_of life.blank).sizes
 
   abbrev disk : Disk
-  disk = labelled_disk revision stamp sizes kept
+  disk = labelled_disk large revision stamp sizes kept
 
   -- ---- what each bay tells
 
@@ -350,8 +350,8 @@ module _ {revision : Revision} {stamp : Stamp} {guid : List ℕ} {kept lost : �
 
   -- ---- the label
 
-  begun : IsDataBegun group (length sizes) (label_copy revision stamp sizes []) life.labelled
-  begun = label_begins revision stamp life.blank life.labelled life.label life.same_sizes life.tells_blank labelled_told
+  begun : IsDataBegun group (length sizes) (label_copy large revision stamp sizes []) life.labelled
+  begun = label_begins large revision stamp life.blank life.labelled life.label life.same_sizes life.tells_blank labelled_told
 
   abbrev first : Moment group MemoryBay
   first = let from = begun in first_moment from.past life.labelled from.floor from.small

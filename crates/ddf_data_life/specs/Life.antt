@@ -1,5 +1,5 @@
 -- A life of a group and of its data on disks in memory, from the label to a read without one of the disks: what it rests on, and what it ends with.
-use Rattle.std.specs.Prelude.{◌≡◌, ◌≢◌, ◌⊎◌, ℕ, ◌<◌, true, List, [], length, is_some, Some, Ok, ◌++◌}
+use Rattle.std.specs.Prelude.{◌≡◌, ◌≢◌, ◌⊎◌, ℕ, Bool, ◌<◌, true, List, [], length, is_some, Some, Ok, ◌++◌}
 use Rattle.ddf_bytes.specs.declared.stamp.Stamp.{Stamp}
 use Rattle.ddf_header.specs.declared.kind.Revision.{Revision}
 use Rattle.ddf_bay.specs.Memory.{disks_of, state_of, without}
@@ -31,11 +31,11 @@ AreAllPlugged bay = (slot : ℕ) → slot < length (disks_of bay).sizes → (dis
 -- It rests on this: no slot is unplugged before the loss, and there is one that isn't the lost one. All commands name the group, and the array that
 -- was created, and no call is listed to fail. The bay still tells what a stop may leave behind the stop and behind the read, and behind the second
 -- write by the image that was left: a command on blocks makes as many calls as they need, so that no bound of its calls tells so.
-pub record IsLife (revision : Revision) (stamp : Stamp) (guid : List ℕ) (kept lost : ℕ) : Type 0 where
+pub record IsLife (large : Bool) (revision : Revision) (stamp : Stamp) (guid : List ℕ) (kept lost : ℕ) : Type 0 where
   -- the label
   pub blank : MemoryBay
   pub labelled : MemoryBay
-  pub label : IsTried (work_of (Unit {0}) (disks_of blank) (disks_of labelled)) revision stamp [] (Ok tt)
+  pub label : IsTried (work_of (Unit {0}) (disks_of blank) (disks_of labelled)) large revision stamp [] (Ok tt)
   pub same_sizes : (disks_of labelled).sizes ≡ (disks_of blank).sizes
   pub tells_blank : (disks_of blank).tells_left
   pub all_plugged : AreAllPlugged labelled
@@ -75,7 +75,7 @@ pub record IsLife (revision : Revision) (stamp : Stamp) (guid : List ℕ) (kept 
   pub read : IsRead (name_of stamp) without_one read_exit guid
   pub read_tells : (disks_of read_exit).tells_left
 
-module _ {revision : Revision} {stamp : Stamp} {guid : List ℕ} {kept lost : ℕ} (life : IsLife revision stamp guid kept lost) where
+module _ {large : Bool} {revision : Revision} {stamp : Stamp} {guid : List ℕ} {kept lost : ℕ} (life : IsLife large revision stamp guid kept lost) where
   -- what is acknowledged of each block: the bytes of the first write, and those that the others had once the array was resynced
   abbrev pub acknowledged : Allowed
   acknowledged = once_written (once_consistent life.resync.plan.volume (disks_of life.resynced).held) life.write.start life.write.sectors
@@ -91,7 +91,7 @@ module _ {revision : Revision} {stamp : Stamp} {guid : List ℕ} {kept lost : �
   pub record Outlives : Type 0 where
     pub printed : MayBe in_the_end life.read.start (blocks_printed life.read.outcome)
     pub each : (block : ℕ) → block < capacity life.resync.plan.volume → is_some (acknowledged block) ≡ true
-    pub begun : IsDataBegun (name_of stamp) (length (disks_of life.blank).sizes) (label_copy revision stamp (disks_of life.blank).sizes []) life.labelled
+    pub begun : IsDataBegun (name_of stamp) (length (disks_of life.blank).sizes) (label_copy large revision stamp (disks_of life.blank).sizes []) life.labelled
     pub after_create : Past (groups (name_of stamp))
     pub create_over : IsOver (name_of stamp) begun.past (is_read life.create.has.taken.left) life.create.took.found (changes_in life.create.took.found life.create.steps) after_create
     pub after_resync : Past (groups (name_of stamp))

@@ -28,9 +28,9 @@ ghost use Rattle.ddf_data_life.specs.Life.{IsLife, Outlives};
 
 /// A `label` of all disks of a bay in memory begins a history of the new group and of its data, in which nothing is promised of any array yet.
 pub fn a_label_of_all_disks_begins_a_history_of_data()
-    ensures { (revision : Revision) (stamp : Stamp) (old new : MemoryBay) → IsTried (work_of (Unit {0}) (disks_of old) (disks_of new)) revision stamp [] (Ok tt)
+    ensures { (large : Bool) (revision : Revision) (stamp : Stamp) (old new : MemoryBay) → IsTried (work_of (Unit {0}) (disks_of old) (disks_of new)) large revision stamp [] (Ok tt)
         → (disks_of new).sizes ≡ (disks_of old).sizes → (disks_of old).tells_left → (disks_of new).tells_left
-        → IsDataBegun (name_of stamp) (length (disks_of old).sizes) (label_copy revision stamp (disks_of old).sizes []) new }
+        → IsDataBegun (name_of stamp) (length (disks_of old).sizes) (label_copy large revision stamp (disks_of old).sizes []) new }
 {}
 
 /// What a command finds that takes the group of a history is what the history admits: of the group one current member can be read, and the command
@@ -94,5 +94,5 @@ pub fn a_group_that_was_found_whole_goes_on_with_its_data()
 /// interrupted write those or its new ones, and of one that was never written those that it had once the array was resynced.
 // promise:written
 pub fn what_was_written_outlives_a_stop_and_a_lost_disk()
-    ensures { (revision : Revision) (stamp : Stamp) (guid : List ℕ) (kept lost : ℕ) (life : IsLife revision stamp guid kept lost) → Outlives life }
+    ensures { (large : Bool) (revision : Revision) (stamp : Stamp) (guid : List ℕ) (kept lost : ℕ) (life : IsLife large revision stamp guid kept lost) → Outlives life }
 {}

@@ -189,12 +189,12 @@ module _ (group : List ℕ) (kept : ℕ) (disk : Disk) where
 
 -- ---- the label
 
-module _ (revision : Revision) (stamp : Stamp) (old new : MemoryBay) (kept : ℕ) (tried : IsTried (work_of (Unit {0}) (disks_of old) (disks_of new)) revision stamp [] (Ok tt))
+module _ (large : Bool) (revision : Revision) (stamp : Stamp) (old new : MemoryBay) (kept : ℕ) (tried : IsTried (work_of (Unit {0}) (disks_of old) (disks_of new)) large revision stamp [] (Ok tt))
     (same_sizes : (disks_of new).sizes ≡ (disks_of old).sizes) (told : (disks_of old).tells_left) (told_new : (disks_of new).tells_left) (there : kept < length (disks_of old).sizes)
     (plugged : (disks_of new).gone kept → ⊥) where
-  pub label_stands : (moment : Moment (name_of stamp) MemoryBay) × Stands (name_of stamp) kept (labelled_disk revision stamp (disks_of old).sizes kept) moment × (moment.bay ≡ new) × (moment.promises ≡ none_promised)
+  pub label_stands : (moment : Moment (name_of stamp) MemoryBay) × Stands (name_of stamp) kept (labelled_disk large revision stamp (disks_of old).sizes kept) moment × (moment.bay ≡ new) × (moment.promises ≡ none_promised)
   label_stands =
-      let from = label_begins revision stamp old new tried same_sizes told told_new in (
+      let from = label_begins large revision stamp old new tried same_sizes told told_new in (
         first_moment from.past new from.floor from.small,
         record {
           data_history = from.history;

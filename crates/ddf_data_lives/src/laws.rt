@@ -32,9 +32,9 @@ ghost use Rattle.ddf_data_lives.specs.Standing.{KeepsDisk, Stands, StandsOn};
 
 /// A `label` of all disks leaves the disk of each slot standing, of which nothing is unplugged: nothing is promised of any array yet.
 pub fn a_label_of_all_disks_leaves_each_standing()
-    ensures { (revision : Revision) (stamp : Stamp) (old new : MemoryBay) (kept : ℕ) → IsTried (work_of (Unit {0}) (disks_of old) (disks_of new)) revision stamp [] (Ok tt)
+    ensures { (large : Bool) (revision : Revision) (stamp : Stamp) (old new : MemoryBay) (kept : ℕ) → IsTried (work_of (Unit {0}) (disks_of old) (disks_of new)) large revision stamp [] (Ok tt)
         → (disks_of new).sizes ≡ (disks_of old).sizes → (disks_of old).tells_left → (disks_of new).tells_left → kept < length (disks_of old).sizes → ((disks_of new).gone kept → ⊥)
-        → (moment : Moment (name_of stamp) MemoryBay) × Stands (name_of stamp) kept (labelled_disk revision stamp (disks_of old).sizes kept) moment
+        → (moment : Moment (name_of stamp) MemoryBay) × Stands (name_of stamp) kept (labelled_disk large revision stamp (disks_of old).sizes kept) moment
         × (moment.bay ≡ new) × (moment.promises ≡ none_promised) }
 {}
 

@@ -1,5 +1,5 @@
 -- How many sectors `label` asks to be written.
-use Rattle.std.proofs.Common.{◌≡◌, ◌∙◌, ℕ, suc, ◌*◌, ◌-◌, List, [], ◌∷◌, length, refl, ap, arith}
+use Rattle.std.proofs.Common.{◌≡◌, ◌∙◌, ℕ, Bool, suc, ◌*◌, ◌-◌, List, [], ◌∷◌, length, refl, ap, arith}
 use Rattle.std.specs.Prelude.{slice_get, Some}
 use Rattle.std.proofs.lemmas.List.Sums.{sum_by-cons}
 use Rattle.ddf_bytes.specs.declared.stamp.Stamp.{Stamp}
@@ -18,7 +18,7 @@ use Rattle.ddf_answer.specs.Call.{work_of}
 use Rattle.ddf_answer.specs.Costs.{WritesAtMost, copy_sectors}
 use Rattle.ddf_answer.proofs.Costs.{costs_writes, none_written, runs_count, writes_most, writes_since}
 use Rattle.ddf_disk_commands.specs.Label.{label_sectors, label_slots}
-use Rattle.ddf_disk_commands.specs.LabelRefusal.{label_layout}
+use Rattle.ddf_disk_commands.specs.LabelRefusal.{label_layout, layout_of}
 
 -- each new copy has as many sectors behind its header
 new_sectors : (layout : NewLayout) (size : ℕ) → copy_sectors (new_geometry layout size) ≡ copy_length layout - 1
@@ -35,19 +35,22 @@ all_alike each (update ∷ updates) are =
     let both = sum_by-cons most_sectors update updates in
     omega (arith, here, rest, both)
 
-module _ {D : Type 0} (tells : Type 0) (a b : BayState D) (reads : ReadsOnly a b) (named slots : List ℕ) (are : slots ≡ label_slots a.sizes named) where
+module _ {D : Type 0} (tells : Type 0) (a b : BayState D) (reads : ReadsOnly a b) (large : Bool) (named slots : List ℕ) (are : slots ≡ label_slots a.sizes named) where
   -- It was found before that nothing fits,
-  pub label_unwritten : WritesAtMost (work_of tells a b) (label_sectors label_layout * length (label_slots a.sizes named))
-  label_unwritten = writes_most (label_sectors label_layout * length (label_slots a.sizes named)) (omega arith) (none_written (work_of tells a b) reads)
+  pub label_unwritten : WritesAtMost (work_of tells a b) (label_sectors (label_layout large a.sizes named) * length (label_slots a.sizes named))
+  label_unwritten = writes_most (label_sectors (label_layout large a.sizes named) * length (label_slots a.sizes named)) (omega arith) (none_written (work_of tells a b) reads)
 
   -- or the slots got their copies, so far as they did.
-  pub label_costs : (revision : Revision) (stamp : Stamp) (sizes : List ℕ) (updates : List Prepared) → AreFirst sizes (new_copy label_layout revision stamp sizes) updates → length updates ≡ length slots
-      → (c : BayState D) (calls : ℕ) → SpendsOver b c (all_sectors updates) calls → WritesAtMost (work_of tells a c) (label_sectors label_layout * length (label_slots a.sizes named))
+  pub label_costs : (revision : Revision) (stamp : Stamp) (sizes : List ℕ) (updates : List Prepared) → AreFirst sizes (new_copy (layout_of large (length slots)) revision stamp sizes) updates → length updates ≡ length slots
+      → (c : BayState D) (calls : ℕ) → SpendsOver b c (all_sectors updates) calls → WritesAtMost (work_of tells a c) (label_sectors (label_layout large a.sizes named) * length (label_slots a.sizes named))
   label_costs revision stamp sizes updates first counted c calls spends =
-      let all = all_alike (label_sectors label_layout) updates (λ place update at.
-      let copy = new_copy label_layout revision stamp sizes place in
-      let count = runs_count copy update.runs (first.are_prepared place update at).runs_are ∙ new_sectors label_layout _ in
+      let firsts : AreFirst sizes (new_copy (label_layout large a.sizes named) revision stamp sizes) updates = rw are at first in
+      let all = all_alike (label_sectors (label_layout large a.sizes named)) updates (λ place update at.
+      let copy = new_copy (label_layout large a.sizes named) revision stamp sizes place in
+      let count = runs_count copy update.runs (firsts.are_prepared place update at).runs_are ∙ new_sectors (label_layout large a.sizes named) _ in
       omega (arith, count)) in
-      let many = ap length are in
-      writes_since tells a b c reads (label_sectors label_layout * length (label_slots a.sizes named))
-      (writes_most (label_sectors label_layout * length (label_slots a.sizes named)) (omega (arith, all, counted, many)) (costs_writes tells spends.costs))
+      let many : length updates ≡ length (label_slots a.sizes named) = counted ∙ ap length are in
+      let most : all_sectors updates ≡ label_sectors (label_layout large a.sizes named) * length (label_slots a.sizes named) =
+      all ∙ ap (λ (count : ℕ). label_sectors (label_layout large a.sizes named) * count) many in
+      writes_since tells a b c reads (label_sectors (label_layout large a.sizes named) * length (label_slots a.sizes named))
+      (writes_most (label_sectors (label_layout large a.sizes named) * length (label_slots a.sizes named)) (omega (arith, most)) (costs_writes tells spends.costs))

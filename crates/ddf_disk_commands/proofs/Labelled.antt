@@ -1,5 +1,5 @@
 -- A founding behind calls that only read.
-use Rattle.std.proofs.Common.{◌≡◌, ℕ, List, length, None, ap, ◌∙◌, inl, inr, ⊎_elim}
+use Rattle.std.proofs.Common.{◌≡◌, ℕ, Bool, List, length, None, ap, ◌∙◌, inl, inr, ⊎_elim}
 use Rattle.ddf_bytes.specs.declared.stamp.Stamp.{Stamp}
 use Rattle.ddf_bay.specs.State.{BayState}
 use Rattle.ddf_bay.specs.Sectors.{Image, IsLeft}
@@ -13,7 +13,7 @@ use Rattle.ddf_update.specs.Group.{AreFirst, HaveFirstCopies, IsLeftFoundingAll,
 use Rattle.ddf_update.specs.NewCopies.{new_copy}
 use Rattle.ddf_update.proofs.FirstCopies.{lie_on_slots, may_found_all}
 use Rattle.ddf_disk_commands.specs.Label.{label_copy, label_slots}
-use Rattle.ddf_disk_commands.specs.LabelRefusal.{label_layout, label_refusal}
+use Rattle.ddf_disk_commands.specs.LabelRefusal.{label_refusal, layout_of}
 use Rattle.ddf_disk_commands.proofs.Chosen.{chosen_once}
 use Rattle.ddf_disk_commands.proofs.Fits.{all_blank}
 
@@ -43,14 +43,14 @@ module _ {D : Type 0} (a b : BayState D) (slots : List ℕ) (copy : ℕ → Disk
   }
 
 -- The slots that were found fit get their first copies.
-module _ {D : Type 0} (a b : BayState D) (named slots : List ℕ) (revision : Revision) (stamp : Stamp) (updates : List Prepared)
+module _ {D : Type 0} (a b : BayState D) (large : Bool) (named slots : List ℕ) (revision : Revision) (stamp : Stamp) (updates : List Prepared)
     (reads : ReadsOnly a b) (are : slots ≡ label_slots a.sizes named) (counted : length updates ≡ length slots)
-    (first : AreFirst (slot_sizes b.sizes slots) (new_copy label_layout revision stamp (slot_sizes b.sizes slots)) updates) where
+    (first : AreFirst (slot_sizes b.sizes slots) (new_copy (layout_of large (length slots)) revision stamp (slot_sizes b.sizes slots)) updates) where
   abbrev sizes : List ℕ
   sizes = a.sizes
 
   abbrev copy : ℕ → DiskCopy
-  copy = label_copy revision stamp sizes named
+  copy = label_copy large revision stamp sizes named
 
   first_here : AreFirst (slot_sizes sizes (label_slots sizes named)) copy updates
   first_here = rw (are, reads.same_sizes) at first
@@ -61,15 +61,15 @@ module _ {D : Type 0} (a b : BayState D) (named slots : List ℕ) (revision : Re
   pub slots_lie : LieOnSlots b.sizes slots updates
   slots_lie = rw (reads.same_sizes, are) (lie_on_slots sizes (label_slots sizes named) copy updates first_here counted_here (chosen_once sizes named))
 
-  may : label_refusal sizes a.held named ≡ None → MayFoundAll b (label_slots sizes named) copy updates
-  may none = may_found_all sizes (label_slots sizes named) copy updates first_here counted_here b reads.same_sizes (rw reads.same_held (all_blank sizes a.held named none))
+  may : label_refusal large sizes a.held named ≡ None → MayFoundAll b (label_slots sizes named) copy updates
+  may none = may_found_all sizes (label_slots sizes named) copy updates first_here counted_here b reads.same_sizes (rw reads.same_held (all_blank large sizes a.held named none))
 
-  pub label_stops : (c : BayState D) → label_refusal sizes a.held named ≡ None
+  pub label_stops : (c : BayState D) → label_refusal large sizes a.held named ≡ None
       → ((one : ℕ → DiskCopy) → MayFoundAll b slots one updates → StopsLeave b c (IsLeftFoundingAll b slots one))
       → StopsLeave a c (IsLeftFoundingAll a (label_slots sizes named) copy)
   label_stops c none step = stops_founding a b (label_slots sizes named) copy reads c (rw are at step copy (may none))
 
-  pub label_founded : (c : BayState D) → label_refusal sizes a.held named ≡ None
+  pub label_founded : (c : BayState D) → label_refusal large sizes a.held named ≡ None
       → ((one : ℕ → DiskCopy) → MayFoundAll b slots one updates → HaveFirstCopies b c slots one (length slots))
       → HaveFirstCopies a c (label_slots sizes named) copy (length (label_slots sizes named))
   label_founded c none step = founded_since a b (label_slots sizes named) copy reads c (length (label_slots sizes named)) (rw are at step copy (may none))

@@ -1,5 +1,5 @@
 -- What `label` does, and how it ends.
-use Rattle.std.specs.Prelude.{◌≡◌, ℕ, ◌+◌, ◌*◌, ◌<◌, List, length, codes, Some, None, OnOk, Result, Ok, Err}
+use Rattle.std.specs.Prelude.{◌≡◌, ℕ, Bool, ◌+◌, ◌*◌, ◌<◌, List, length, codes, Some, None, OnOk, Result, Ok, Err}
 use Rattle.ddf_bytes.specs.declared.stamp.Stamp.{Stamp}
 use Rattle.ddf_bay.specs.Moments.{StopsLeave}
 use Rattle.ddf_bay.specs.ReadsOnly.{ReadsOnly, SlotRose}
@@ -31,8 +31,8 @@ revision_of Standard = R200
 revision_of Linux = R120
 
 -- the copy that each of them gets, by its place
-abbrev pub label_copy : Revision → Stamp → List ℕ → (named : List ℕ) → ℕ → DiskCopy
-label_copy revision stamp sizes named = new_copy label_layout revision stamp (slot_sizes sizes (label_slots sizes named))
+abbrev pub label_copy : (large : Bool) → Revision → Stamp → List ℕ → (named : List ℕ) → ℕ → DiskCopy
+label_copy large revision stamp sizes named = new_copy (label_layout large sizes named) revision stamp (slot_sizes sizes (label_slots sizes named))
 
 -- the most sectors that each of them gets written: its two copies, whose headers are written twice, and the anchor
 abbrev pub label_sectors : NewLayout → ℕ
@@ -40,17 +40,17 @@ label_sectors layout = 2 * (copy_length layout + 1) + 1
 
 -- What it did, by its answer: the slots have their copies, sure; or else it was refused and nothing was written, or a call on a
 -- slot failed, or memory ran out and nothing was written.
-abbrev pub IsTried : {D : Type 0} → Work D → Revision → Stamp → (named : List ℕ) → Result (Unit {0}) Failure → Type 0
-IsTried work revision stamp named (Ok done) =
-    work.tells → (label_refusal work.old.sizes work.old.held named ≡ None)
-    × HaveFirstCopies work.old work.new (label_slots work.old.sizes named) (label_copy revision stamp work.old.sizes named) (length (label_slots work.old.sizes named))
-IsTried work revision stamp named (Err (Refused refusal)) =
-    (work.tells → label_refusal work.old.sizes work.old.held named ≡ Some refusal) × ReadsOnly work.old work.new
-IsTried work revision stamp named (Err (Disk slot)) =
+abbrev pub IsTried : {D : Type 0} → Work D → (large : Bool) → Revision → Stamp → (named : List ℕ) → Result (Unit {0}) Failure → Type 0
+IsTried work large revision stamp named (Ok done) =
+    work.tells → (label_refusal large work.old.sizes work.old.held named ≡ None)
+    × HaveFirstCopies work.old work.new (label_slots work.old.sizes named) (label_copy large revision stamp work.old.sizes named) (length (label_slots work.old.sizes named))
+IsTried work large revision stamp named (Err (Refused refusal)) =
+    (work.tells → label_refusal large work.old.sizes work.old.held named ≡ Some refusal) × ReadsOnly work.old work.new
+IsTried work large revision stamp named (Err (Disk slot)) =
     (slot < length work.old.sizes) × SlotRose work.old work.new slot
-IsTried work revision stamp named (Err (Conflict i j sequence differ)) = ⊥
-IsTried work revision stamp named (Err (Split i j)) = ⊥
-IsTried work revision stamp named (Err Memory) =
+IsTried work large revision stamp named (Err (Conflict i j sequence differ)) = ⊥
+IsTried work large revision stamp named (Err (Split i j)) = ⊥
+IsTried work large revision stamp named (Err Memory) =
     ReadsOnly work.old work.new
 
 -- what is told of it, and with which status
@@ -61,11 +61,11 @@ IsToldLabel (Err failure) answer = IsToldFailure failure answer
 -- It did this, and said so. A stop leaves each slot as it might have left it before, or blank, or with its copy, and no sector
 -- before both places of the copy is written. Where it is to be refused nothing is written, whatever it answers; and no more than the sectors
 -- of the slots' copies ever are. Where it is done no write or sync of any slot failed.
-pub record IsLabelled {D : Type 0} (work : Work D) (revision : Revision) (stamp : Stamp) (named : List ℕ) (answer : Answer) : Type 0 where
+pub record IsLabelled {D : Type 0} (work : Work D) (large : Bool) (revision : Revision) (stamp : Stamp) (named : List ℕ) (answer : Answer) : Type 0 where
   pub outcome : Result (Unit {0}) Failure
-  pub tried : IsTried work revision stamp named outcome
+  pub tried : IsTried work large revision stamp named outcome
   pub ends : IsToldLabel outcome answer
   pub unfailed : OnOk outcome ((slot : ℕ) → work.new.failed_writes slot ≡ work.old.failed_writes slot)
-  pub any_moment : work.tells → StopsLeave work.old work.new (IsLeftFoundingAll work.old (label_slots work.old.sizes named) (label_copy revision stamp work.old.sizes named))
-  pub costs : WritesAtMost work (label_sectors label_layout * length (label_slots work.old.sizes named))
-  pub refused : work.tells → (refusal : Refusal) → label_refusal work.old.sizes work.old.held named ≡ Some refusal → ReadsOnly work.old work.new
+  pub any_moment : work.tells → StopsLeave work.old work.new (IsLeftFoundingAll work.old (label_slots work.old.sizes named) (label_copy large revision stamp work.old.sizes named))
+  pub costs : WritesAtMost work (label_sectors (label_layout large work.old.sizes named) * length (label_slots work.old.sizes named))
+  pub refused : work.tells → (refusal : Refusal) → label_refusal large work.old.sizes work.old.held named ≡ Some refusal → ReadsOnly work.old work.new

@@ -3,7 +3,7 @@ ghost use Rattle.std.specs.Prelude.{◌≡◌, ◌<◌, ◌≤◌, nat_le, Some,
 ghost use Rattle.std.specs.List.{find};
 ghost use Rattle.ddf_bay.specs.ReadsOnly.{ReadsOnly, SlotRose};
 ghost use Rattle.ddf_disk_commands.specs.Label.{label_slots};
-ghost use Rattle.ddf_disk_commands.specs.LabelRefusal.{IsFit, IsFitFailure, chosen, is_anchored, is_chosen, is_named, is_small, label_refusal, misfit, missing, unfit};
+ghost use Rattle.ddf_disk_commands.specs.LabelRefusal.{IsFit, IsFitFailure, chosen, is_anchored, is_chosen, is_named, is_small, label_refusal, layout_of, misfit, missing, unfit};
 ghost use Rattle.ddf_disk_commands.specs.Quiet.{IsQuiet};
 
 use ddf_answer::Failure;
@@ -14,19 +14,50 @@ use ddf_copy::{AnchorFault, anchor_of};
 use ddf_update::NewLayout;
 use std::alloc::Global;
 
-/// The layout of the disks that are made (profile).
-pub(crate) const LAYOUT: NewLayout = NewLayout::Small;
+/// The layout of the disks that `label` makes of the named slots, or of all where none is named, of so many that are there (profile).
+pub fn layout_for(large: bool, named: &[u8], count: usize) -> NewLayout
+    ensures { result ≡ layout_of large (length (chosen count named.now)) }
+{
+    layout_of(large, count_chosen(named, count))
+}
 
-/// The slots to label, in rising order: those that are named, or all. It reads the last sector of each.
+/// How many of the first slots are labelled.
+fn count_chosen(named: &[u8], count: usize) -> usize
+    ensures { result ≡ length (chosen count named.now) }
+{
+    let mut labelled = 0;
+    for slot in 0..count {
+        if is_chosen(named, slot) {
+            labelled += 1;
+        }
+    }
+    labelled
+}
+
+/// The layout of the disks of a new group of so many: those of a large one where it is asked for, or where a small one has no room for so
+/// many (profile).
+pub(crate) fn layout_of(large: bool, count: usize) -> NewLayout
+    ensures { result ≡ layout_of large count }
+{
+    if large || count > usize::from(NewLayout::Small.most_disks()) {
+        NewLayout::Large
+    } else {
+        NewLayout::Small
+    }
+}
+
+/// The slots to label, in rising order: those that are named, or all. It reads the last sector of each. With `large` the group is to be a
+/// large one.
 pub(crate) fn fit_slots<B: Bay>(
     alloc: Global,
+    large: bool,
     named: &[u8],
     bay: &mut B,
 ) -> Result<Vec<usize>, Failure>
     ensures slots { IfOk result (λ slots. slots.items ≡ label_slots (B.disks bay.old).sizes named.now) }
-    ensures fit { IfOk result (λ slots. IsFit (B.disks bay.old).sizes slots.items) }
-    ensures unrefused { B.tells → OnOk result (label_refusal (B.disks bay.old).sizes (B.disks bay.old).held named.now ≡ None) }
-    ensures failed { IfErr result (IsFitFailure (B.disks bay.old) (B.disks bay.new) B.tells named.now) }
+    ensures fit { IfOk result (λ slots. IsFit (layout_of large (length slots.items)) (B.disks bay.old).sizes slots.items) }
+    ensures unrefused { B.tells → OnOk result (label_refusal large (B.disks bay.old).sizes (B.disks bay.old).held named.now ≡ None) }
+    ensures failed { IfErr result (IsFitFailure (B.disks bay.old) (B.disks bay.new) B.tells large named.now) }
     ensures quiet { OnOk result (IsQuiet (B.disks bay.old) (B.disks bay.new)) }
     ensures reads { ReadsOnly (B.disks bay.old) (B.disks bay.new) }
 {
@@ -37,7 +68,7 @@ pub(crate) fn fit_slots<B: Bay>(
     let Ok(slots) = chosen(alloc, count, named) else {
         return Err(Failure::Memory);
     };
-    match unfit(bay, &slots) {
+    match unfit(bay, large, &slots) {
         Ok(None) => Ok(slots),
         Ok(Some(refusal)) => Err(Failure::Refused(refusal)),
         Err(DiskFault(slot)) => Err(Failure::Disk(slot)),
@@ -92,46 +123,51 @@ fn is_named(named: &[u8], slot: usize) -> bool
 }
 
 /// What these slots are refused for. All their anchors are read before.
-fn unfit<B: Bay>(bay: &mut B, slots: &[usize]) -> Result<Option<Refusal>, DiskFault>
+fn unfit<B: Bay>(bay: &mut B, large: bool, slots: &[usize]) -> Result<Option<Refusal>, DiskFault>
     requires { All (λ slot. slot < length (B.disks bay.old).sizes) slots.now }
-    ensures answer { B.tells → IfOk result (λ refusal. refusal ≡ unfit (B.disks bay.old).sizes (B.disks bay.old).held slots.now) }
-    ensures fit { IfOk result (λ refusal. refusal ≡ None → IsFit (B.disks bay.old).sizes slots.now) }
+    ensures answer { B.tells → IfOk result (λ refusal. refusal ≡ unfit (layout_of large (length slots.now)) (B.disks bay.old).sizes (B.disks bay.old).held slots.now) }
+    ensures fit { IfOk result (λ refusal. refusal ≡ None → IsFit (layout_of large (length slots.now)) (B.disks bay.old).sizes slots.now) }
     ensures failed { IfErr result (λ e. (e.0 < length (B.disks bay.old).sizes) × SlotRose (B.disks bay.old) (B.disks bay.new) e.0) }
     ensures quiet { OnOk result (IsQuiet (B.disks bay.old) (B.disks bay.new)) }
     ensures reads { ReadsOnly (B.disks bay.old) (B.disks bay.new) }
 {
     match first_anchored(bay, slots) {
-        Ok(anchored) => Ok(misfit(bay, slots, anchored)),
+        Ok(anchored) => Ok(misfit(bay, layout_of(large, slots.len()), slots, anchored)),
         Err(fault) => Err(fault),
     }
 }
 
-/// What slots are refused for of which this is the first with an anchor.
-fn misfit<B: Bay>(bay: &B, slots: &[usize], anchored: Option<usize>) -> Option<Refusal>
+/// What slots are refused for of which this is the first with an anchor, and whose disks are to be of a layout.
+fn misfit<B: Bay>(
+    bay: &B,
+    layout: NewLayout,
+    slots: &[usize],
+    anchored: Option<usize>,
+) -> Option<Refusal>
     requires { All (λ slot. slot < length (B.disks bay.now).sizes) slots.now }
-    ensures { result ≡ misfit (B.disks bay.now).sizes anchored slots.now }
+    ensures { result ≡ misfit layout (B.disks bay.now).sizes anchored slots.now }
 {
     if let Some(slot) = anchored {
         return Some(Refusal::NotBlank(slot));
     }
-    if let Some(slot) = first_small(bay, slots) {
+    if let Some(slot) = first_small(bay, layout, slots) {
         return Some(Refusal::Small {
-            needed: LAYOUT.least_sectors(),
+            needed: layout.least_sectors(),
             found: bay.size(slot),
         });
     }
-    if slots.len() > usize::from(LAYOUT.most_disks()) {
+    if slots.len() > usize::from(layout.most_disks()) {
         return Some(Refusal::Full(FullTable::Disks));
     }
     None
 }
 
 /// The first of the slots with too few sectors.
-fn first_small<B: Bay>(bay: &B, slots: &[usize]) -> Option<usize>
+fn first_small<B: Bay>(bay: &B, layout: NewLayout, slots: &[usize]) -> Option<usize>
     requires { All (λ slot. slot < length (B.disks bay.now).sizes) slots.now }
-    ensures { result ≡ find (is_small (B.disks bay.now).sizes) slots.now }
+    ensures { result ≡ find (is_small layout (B.disks bay.now).sizes) slots.now }
 {
-    let least = LAYOUT.least_sectors();
+    let least = layout.least_sectors();
     slots.iter().copied().find(|slot| bay.size(*slot) < least)
 }
 

@@ -7,4 +7,5 @@ mod labelling;
 mod viewing;
 
 pub use examining::examine;
+pub use label_slots::layout_for;
 pub use labelling::label;

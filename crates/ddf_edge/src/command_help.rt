@@ -154,11 +154,13 @@ prints. Members that are missing on either side are lost to the group. Name @GRO
 ";
 
 const LABEL: &str = "\
-ddf IMAGE.. -- label [linux] [SLOT..]
+ddf IMAGE.. -- label [linux] [large] [SLOT..]
 
-Writes: it makes a new group of these blank disks, or of all that are named: at most 15 disks of
-at least 33,000 sectors. With linux one that Linux's mdadm takes. What is on a disk is lost; one
-that isn't empty is named, and at a terminal you are asked.
+Writes: it makes a new group of these blank disks, or of all that are named: at most 63. Up to 15
+need 33,000 sectors each, and their group has room for 15 disks and 15 arrays. More than 15, and
+all with large, need 33,320, for 63 disks and 59 arrays. With linux it is a group that Linux's
+mdadm takes. What is on a disk is lost; one that isn't empty is named, and at a terminal you are
+asked.
 
   ddf d0.img d1.img d2.img -- label
 ";

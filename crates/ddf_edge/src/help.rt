@@ -32,8 +32,9 @@ Put in order, and replace a disk:
   import GUID      take in a new disk, or the disks and arrays of another group
 
 Make and fill:
-  label [linux] [SLOT..]
-                   a new group of blank disks; with linux one that Linux's mdadm takes
+  label [linux] [large] [SLOT..]
+                   a new group of blank disks; with linux one that Linux's mdadm takes, with
+                   large one with room for 63 disks, and not for 15
   create NAME LEVEL CODE SECONDARY SLOT,SLOT..@BLOCKS..
                    a new array, as: create home raid5.rnc 7 single 0,1,2@8192
   resync NAME      make the copies and the parity of a new array agree; do it once

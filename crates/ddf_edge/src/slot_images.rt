@@ -12,7 +12,7 @@ pub fn number_slots<R: Eprint + AllocGlobal>(
     rt: &R,
     words: &mut Vec<String>,
 ) -> Result<(), AllocError> {
-    name_linux(rt, words);
+    name_label_words(rt, words);
     for place in slot_places(words) {
         if let Some(slot) = slot_at(words, place) {
             let number = format!(in rt.alloc(); "{slot}")?;
@@ -43,21 +43,38 @@ pub fn put_word(words: &mut Vec<String>, place: usize, new: String) {
     }
 }
 
-/// Says on standard error where the path of an image is taken for a slot, and would else be the word `linux` of `label`.
-fn name_linux<R: Eprint>(rt: &R, words: &[String]) {
+/// Says on standard error where the path of an image is taken for a slot, and would else be the word `linux` or `large` of `label`.
+fn name_label_words<R: Eprint>(rt: &R, words: &[String]) {
     let name = name_place(words);
-    let place = name.saturating_add(1);
-    let is_linux = match (words.get(name), words.get(place)) {
-        (Some(command), Some(word)) => command.as_str() == "label" && word.as_str() == "linux",
-        _ => false,
-    };
+    if !is_word(words, name, "label") {
+        return;
+    }
+    let first = name.saturating_add(1);
+    name_label_word(rt, words, first, "linux", "disks for Linux");
+    name_label_word(rt, words, first, "large", "disks of a large group");
+    if is_word(words, first, "linux") && slot_at(words, first).is_none() {
+        let second = first.saturating_add(1);
+        name_label_word(rt, words, second, "large", "disks of a large group");
+    }
+}
+
+/// Says so of the word at a place, where it is this one, by what it would else make.
+fn name_label_word<R: Eprint>(rt: &R, words: &[String], place: usize, word: &str, what: &str) {
     match slot_at(words, place) {
-        Some(slot) if is_linux => {
+        Some(slot) if is_word(words, place, word) => {
             let _ = eprintln!(rt;
-                "ddf: linux is taken for the image of slot {slot}: with ./linux for that image it makes disks for Linux"
+                "ddf: {word} is taken for the image of slot {slot}: with ./{word} for that image it makes {what}"
             );
         }
         _ => {}
+    }
+}
+
+/// Whether this word stands at a place.
+fn is_word(words: &[String], place: usize, word: &str) -> bool {
+    match words.get(place) {
+        Some(other) => other.as_str() == word,
+        None => false,
     }
 }
 

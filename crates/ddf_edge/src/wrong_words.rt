@@ -140,6 +140,13 @@ fn explain_slot<'a>(words: &'a [String], name: usize, word: &'a str) -> Wrong<'a
             "linux first and once, and a slot's number or image",
         );
     }
+    if word == "large" {
+        return Wrong::Misplaced(
+            "label",
+            word,
+            "large once, first or directly behind linux, and a slot's number or image",
+        );
+    }
     let count = words
         .iter()
         .skip(name)

@@ -46,7 +46,7 @@ pub record LacksMemory (old new : MemoryBay) (before after : SinkState) (status 
 
 -- A step was taken, which made this of the disks, told this, and ended with this status.
 abbrev pub IsTaken : Stamp → Step → (old new : MemoryBay) → (before after : SinkState) → (status : ℕ) → Type 0
-IsTaken stamp Label old new before after status = IsCall stamp (commands.Label Standard []) [] old new before after status
+IsTaken stamp Label old new before after status = IsCall stamp (commands.Label Standard false []) [] old new before after status
 IsTaken stamp Create old new before after status = IsCall stamp (commands.Change (wishes.Create array_asked)) [] old new before after status ⊎ LacksMemory old new before after status
 IsTaken stamp Resync old new before after status = IsCall stamp (commands.Resync array_name) [] old new before after status
 IsTaken stamp (Spare slot) old new before after status = IsCall stamp (commands.Change (wishes.Spare slot Global)) [] old new before after status

@@ -122,7 +122,7 @@ fn take(
     ensures same_sizes { (disks_of bay.new).sizes ≡ (disks_of bay.old).sizes }
 {
     match step {
-        Step::Label => label(alloc, DiskStyle::Standard, &[], bay, sink, stamp),
+        Step::Label => label(alloc, DiskStyle::Standard, false, &[], bay, sink, stamp),
         Step::Create => create(alloc, group, bay, sink, stamp),
         Step::Resync => resync_disks(alloc, Some(group), NAME, bay, sink, stamp),
         Step::Spare(slot) => {

@@ -1,5 +1,5 @@
 -- A label of five new disks in memory founds their group, and leaves zeros below its records.
-use Rattle.std.proofs.Common.{◌≡◌, ◌∙◌, ℕ, zero, suc, ◌+◌, ◌-◌, ◌^◌, ◌<◌, ◌≤◌, false, List, [], ◌∷◌, length, replicate, Some, None, refl, sym, ap, subst, ⊎_elim, arith}
+use Rattle.std.proofs.Common.{◌≡◌, ◌∙◌, ℕ, zero, suc, ◌+◌, ◌-◌, ◌*◌, ◌^◌, ◌<◌, ◌≤◌, false, List, [], ◌∷◌, length, replicate, Some, None, refl, sym, ap, subst, ⊎_elim, arith}
 use Rattle.std.specs.Prelude.{slice_get, slice_index, slice_index_or}
 use Rattle.std.specs.List.{AllByRecursion}
 use Rattle.std.proofs.lemmas.Bool.{cases_lt}
@@ -16,8 +16,9 @@ use Rattle.ddf_update.specs.Group.{HaveFirstCopies, IsOneOf, slot_sizes}
 use Rattle.ddf_update.specs.NewCopies.{group_of}
 use Rattle.ddf_steps.specs.Committed.{slots_of}
 use Rattle.ddf_answer.specs.Call.{answer_of, work_of}
-use Rattle.ddf_disk_commands.specs.Label.{IsLabelled, label_copy, label_slots}
-use Rattle.ddf_disk_commands.specs.LabelRefusal.{label_refusal}
+use Rattle.ddf_answer.specs.Costs.{WritesAtMost}
+use Rattle.ddf_disk_commands.specs.Label.{IsLabelled, label_copy, label_sectors, label_slots}
+use Rattle.ddf_disk_commands.specs.LabelRefusal.{label_layout, label_refusal}
 use Rattle.ddf_text.specs.Done.{sequence_line}
 use Rattle.ddf_uncut_group.specs.Labelled.{labelled_group}
 use Rattle.ddf_uncut_group.specs.Settled.{AreSettledAs}
@@ -104,10 +105,13 @@ module _ (total : ℕ) (old : MemoryBay) (made : state_of old ≡ blank sizes_ma
   made_zero slot l = ap (λ (bay : MemoryState). held_of bay.logged slot l) made ∙ same_zeros
 
   -- and may be labelled
-  made_unrefused : label_refusal (disks_of old).sizes (disks_of old).held [] ≡ None
+  made_unrefused : label_refusal false (disks_of old).sizes (disks_of old).held [] ≡ None
   made_unrefused =
       let large : 33000 ≤ 65536 = omega arith in
       memory_unrefused old sizes_made total [] None made (omega arith) (omega arith) (large, (large, (large, (large, (large, tt)))))
+
+  made_few : length (disks_of old).sizes ≤ 15
+  made_few = let five : 5 ≤ 15 = omega arith in subst (λ (sizes : List ℕ). length sizes ≤ 15) (sym made_sizes) five
 
   made_fit : AllByRecursion (λ (size : ℕ). size < 2 ^ 64) (disks_of old).sizes
   made_fit = let small : 65536 < 2 ^ 64 = omega arith in subst (λ (sizes : List ℕ). AllByRecursion (λ (size : ℕ). size < 2 ^ 64) sizes) (sym made_sizes) (small, (small, (small, (small, (small, tt)))))
@@ -115,13 +119,14 @@ module _ (total : ℕ) (old : MemoryBay) (made : state_of old ≡ blank sizes_ma
   -- ---- a label
 
   module _ (stamp : Stamp) (enough : 415 ≤ total) (new : MemoryBay) (goes : GoesOn (disks_of old) (disks_of new)) (after : SinkState) (status : ℕ)
-      (done : IsLabelled (work_of (Unit {0}) (disks_of old) (disks_of new)) R200 stamp [] (answer_of (Unit {0}) unused after status)) where
+      (done : IsLabelled (work_of (Unit {0}) (disks_of old) (disks_of new)) false R200 stamp [] (answer_of (Unit {0}) unused after status)) where
     few : (state_of new).asked ≤ 415
     few =
-        let cost = done.costs.asked in
-        let slots : length (label_slots (disks_of old).sizes []) ≡ 5 = ap (λ (sizes : List ℕ). length (label_slots sizes [])) made_sizes in
+        let most : label_sectors (label_layout false (disks_of old).sizes []) * length (label_slots (disks_of old).sizes []) ≡ 415 =
+        ap (λ (sizes : List ℕ). label_sectors (label_layout false sizes []) * length (label_slots sizes [])) made_sizes in
+        let cost = (subst (WritesAtMost (work_of (Unit {0}) (disks_of old) (disks_of new))) most done.costs).asked in
         let none = ap (λ (bay : MemoryState). bay.asked) made in
-        omega (arith, cost, slots, none)
+        omega (arith, cost, none)
 
     within : (state_of new).asked ≤ total
     within = let asked = few in omega (arith, asked, enough)
@@ -131,7 +136,7 @@ module _ (total : ℕ) (old : MemoryBay) (made : state_of old ≡ blank sizes_ma
         no_rise total none_out old new made_well goes within slot (subst (λ (n : ℕ). slot < n) (ap (λ (sizes : List ℕ). length sizes) made_sizes) low) (false_at 5 slot) rose
 
     abbrev HaveCopies : List ℕ → Type 0
-    HaveCopies sizes = HaveFirstCopies (disks_of old) (disks_of new) (label_slots sizes []) (label_copy R200 stamp sizes []) (length (label_slots sizes []))
+    HaveCopies sizes = HaveFirstCopies (disks_of old) (disks_of new) (label_slots sizes []) (label_copy false R200 stamp sizes []) (length (label_slots sizes []))
 
     module _ (first : HaveCopies (disks_of old).sizes) where
       have : HaveCopies sizes_made
@@ -140,7 +145,7 @@ module _ (total : ℕ) (old : MemoryBay) (made : state_of old ≡ blank sizes_ma
       settled : AreSettledAs sizes_made (disks_of new).held none_out (labelled_group R200 stamp sizes_made)
       settled =
           subst (λ (sizes : List ℕ). AreSettledAs sizes (disks_of new).held (replicate (length sizes) false) (labelled_group R200 stamp sizes)) made_sizes
-          (labelled_settles R200 stamp (disks_of old) (disks_of new) made_unrefused made_fit first)
+          (labelled_settles R200 stamp (disks_of old) (disks_of new) made_few made_unrefused made_fit first)
 
       stands : StandsAt (group_of stamp) total 415 none_out (founded (group_of stamp) (new_disks stamp) 1) (seats_at (new_disks stamp) Opening) new
       stands = record {
@@ -160,8 +165,8 @@ module _ (total : ℕ) (old : MemoryBay) (made : state_of old ≡ blank sizes_ma
       below slot l low small =
           let size : slice_index sizes_made slot ≡ 65536 = size_made slot low in
           let plain = new_plain R200 stamp (slot_sizes sizes_made (label_slots sizes_made [])) slot in
-          let primary : (label_copy R200 stamp sizes_made [] slot).header.primary_lba ≡ slice_index sizes_made slot - 41 = plain.primary in
-          let secondary : (label_copy R200 stamp sizes_made [] slot).header.secondary_lba ≡ slice_index sizes_made slot - 81 = plain.secondary in
+          let primary : (label_copy false R200 stamp sizes_made [] slot).header.primary_lba ≡ slice_index sizes_made slot - 41 = plain.primary in
+          let secondary : (label_copy false R200 stamp sizes_made [] slot).header.secondary_lba ≡ slice_index sizes_made slot - 81 = plain.secondary in
           have.before slot slot l low (five_there slot low) (omega (arith, small, size, primary), omega (arith, small, size, secondary))
 
       zeros_stay : IsZero new

@@ -79,22 +79,22 @@ module _ (answer : Answer) (told : answer.tells) {P : Type 0} where
 -- ---- label
 
 module _ {D : Type 0} (work : Work D) (tells : work.tells) (revision : Revision) (stamp : Stamp) (answer : Answer) (told : answer.tells)
-    (accepted : label_refusal work.old.sizes work.old.held [] ≡ None) (calm : (slot : ℕ) → slot < length work.old.sizes → SlotRose work.old work.new slot → ⊥) where
+    (accepted : label_refusal false work.old.sizes work.old.held [] ≡ None) (calm : (slot : ℕ) → slot < length work.old.sizes → SlotRose work.old work.new slot → ⊥) where
   abbrev HasLabelled : Type 0
-  HasLabelled = HaveFirstCopies work.old work.new (label_slots work.old.sizes []) (label_copy revision stamp work.old.sizes []) (length (label_slots work.old.sizes []))
+  HasLabelled = HaveFirstCopies work.old work.new (label_slots work.old.sizes []) (label_copy false revision stamp work.old.sizes []) (length (label_slots work.old.sizes []))
 
-  label_by : (outcome : Result (Unit {0}) Failure) → IsTried work revision stamp [] outcome → IsToldLabel outcome answer → EndsWell answer (sequence_line 1) HasLabelled
+  label_by : (outcome : Result (Unit {0}) Failure) → IsTried work false revision stamp [] outcome → IsToldLabel outcome answer → EndsWell answer (sequence_line 1) HasLabelled
   label_by (Ok done) tried ends = closes answer told (sequence_line 1) (tried tells).1 (subst (λ (text : List ℕ). ClosesWith 0 text answer) one_line ends)
   label_by (Err (Refused refusal)) tried ends = let is = tried.0 tells in absurd (none_some is)
     where
-      none_some : label_refusal work.old.sizes work.old.held [] ≡ Some refusal → ⊥
+      none_some : label_refusal false work.old.sizes work.old.held [] ≡ Some refusal → ⊥
       none_some is = let bad : ◌≡◌ {A = Option Refusal} None (Some refusal) = sym accepted ∙ is in cc
   label_by (Err (Disk slot)) tried ends = absurd (calm slot tried.0 tried.1)
   label_by (Err (Conflict i j sequence differ)) tried ends = absurd tried
   label_by (Err (Split i j)) tried ends = absurd tried
   label_by (Err Memory) tried ends = no_memory answer told (sequence_line 1) ends
 
-  pub label_ends : IsLabelled work revision stamp [] answer → EndsWell answer (sequence_line 1) HasLabelled
+  pub label_ends : IsLabelled work false revision stamp [] answer → EndsWell answer (sequence_line 1) HasLabelled
   label_ends done = label_by done.outcome done.tried done.ends
 
 -- ---- steps that are asked for

@@ -31,7 +31,7 @@ ghost use Rattle.ddf_exercise_disks.specs.Zeros.{IsZero, none_out};
 /// Five disks of zeros are labelled as a new group, and zeros stay below its records; or memory ran out, or the output failed.
 pub fn a_label_founds_the_group_on_new_disks()
     ensures { (total : ℕ) (old new : MemoryBay) → state_of old ≡ blank sizes_made total [] None → (stamp : Stamp) → 415 ≤ total → GoesOn (disks_of old) (disks_of new) → (after : SinkState) (status : ℕ)
-        → IsLabelled (work_of (Unit {0}) (disks_of old) (disks_of new)) R200 stamp [] (answer_of (Unit {0}) unused after status)
+        → IsLabelled (work_of (Unit {0}) (disks_of old) (disks_of new)) false R200 stamp [] (answer_of (Unit {0}) unused after status)
         → EndsWell (answer_of (Unit {0}) unused after status) (sequence_line 1)
         (StandsAt (group_of stamp) total 415 none_out (founded (group_of stamp) (new_disks stamp) 1) (seats_at (new_disks stamp) Opening) new × IsZero new) }
 {}

@@ -61,8 +61,8 @@ behind_later seed rounds =
 
 -- ---- its label
 
-label_tried : {D : Type 0} (work : Work D) (stamp : Stamp) (answer : Answer) (outcome : Result (Unit {0}) Failure) → IsLabelTried work R200 stamp [] outcome → IsToldLabel outcome answer → answer.status ≡ 0
-    → IsLabelTried work R200 stamp [] (Ok tt)
+label_tried : {D : Type 0} (work : Work D) (stamp : Stamp) (answer : Answer) (outcome : Result (Unit {0}) Failure) → IsLabelTried work false R200 stamp [] outcome → IsToldLabel outcome answer → answer.status ≡ 0
+    → IsLabelTried work false R200 stamp [] (Ok tt)
 label_tried work stamp answer (Ok done) tried ends zero = tried
 label_tried work stamp answer (Err failure) tried ends zero = absurd (no_failure failure answer ends zero)
 
@@ -75,7 +75,7 @@ module _ (stamp : Stamp) (seed rounds : ℕ) (old new : MemoryBay) (is_new : sta
   }
 
   abbrev disk : Disk
-  disk = labelled_disk R200 stamp (disks_of old).sizes 0
+  disk = labelled_disk false R200 stamp (disks_of old).sizes 0
 
   there : 0 < length (disks_of old).sizes
   there = subst (λ (sizes : List ℕ). 0 < length sizes) (sym (made_calm).sizes_are) (omega arith)
@@ -92,9 +92,9 @@ module _ (stamp : Stamp) (seed rounds : ℕ) (old new : MemoryBay) (is_new : sta
         let both : true ≡ false = sym was ∙ made in
         cc
 
-    begun : (moment : Moment (name_of stamp) MemoryBay) × Stands (name_of stamp) 0 (labelled_disk R200 stamp (disks_of old).sizes 0) moment × (moment.bay ≡ labelled) × (moment.promises ≡ none_promised)
+    begun : (moment : Moment (name_of stamp) MemoryBay) × Stands (name_of stamp) 0 (labelled_disk false R200 stamp (disks_of old).sizes 0) moment × (moment.bay ≡ labelled) × (moment.promises ≡ none_promised)
     begun =
-        label_stands R200 stamp old labelled 0
+        label_stands false R200 stamp old labelled 0
         (label_tried (work_of (Unit {0}) (disks_of old) (disks_of labelled)) stamp (answer_of (Unit {0}) unused done.after done.status) done.taken.done.outcome done.taken.done.tried done.taken.done.ends done.is_zero)
         (changes old labelled goes).same_sizes told_old told_then there plugged
 

@@ -57,7 +57,7 @@ pub record IsLived (stamp : Stamp) (all : List Step) (old new : MemoryBay) : Typ
   pub nothing : start.promises ≡ none_promised
   pub last : Moment (name_of stamp) MemoryBay
   pub is_bay : last.bay ≡ new
-  pub lives : Lives (name_of stamp) 0 (labelled_disk R200 stamp (disks_of old).sizes 0) all start last
+  pub lives : Lives (name_of stamp) 0 (labelled_disk false R200 stamp (disks_of old).sizes 0) all start last
 
 -- There are new disks on which such an exercise is one.
 pub record HasLived (stamp : Stamp) (seed rounds : ℕ) : Type 0 where

@@ -6,6 +6,7 @@ use ddf_assembly::Group;
 use ddf_bay::Bay;
 use ddf_bytes::Guid;
 use ddf_config::{Array, slot_of};
+use ddf_disk_commands::layout_for;
 use ddf_edge::OneLine;
 use ddf_name::NameText;
 use ddf_update::NewLayout;
@@ -26,13 +27,14 @@ const MOST_MIRRORS: usize = 3;
 /// The init state of an array that was wholly initialised, in bits 0 and 1.
 const INITIALISED: u8 = 2;
 
-/// The layout of the disks that a command makes for Linux, if it makes any.
-pub fn made_for_linux(command: &Command) -> Option<NewLayout> {
+/// The layout of the disks that a command makes for Linux, of so many that are there, if it makes any.
+pub fn made_for_linux(command: &Command, disks: usize) -> Option<NewLayout> {
     match command {
         Command::Label {
             style: DiskStyle::Linux,
-            ..
-        } => Some(NewLayout::Small),
+            large,
+            slots,
+        } => Some(layout_for(*large, slots.items(), disks)),
         _ => None,
     }
 }
@@ -43,6 +45,7 @@ pub fn name_untaken<R: Eprint, B: LinuxBay>(rt: &R, bay: &B, paths: &[String], c
         Command::Label {
             style: DiskStyle::Linux,
             slots,
+            ..
         } => name_small(rt, bay, paths, slots.items()),
         Command::Change(Wish::Create(creation)) if is_on_linux(bay, creation) => {
             name_unstarted(rt, creation, is_on_small(bay, creation));

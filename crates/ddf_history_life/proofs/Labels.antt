@@ -117,8 +117,8 @@ pub only_one : {C : Type 0} (first config : C) (number : ℕ) → slice_get (fir
 only_one first config zero at = cc
 only_one first config (suc number) at = absurd cc
 
-module _ (revision : Revision) (stamp : Stamp) (old new : MemoryBay)
-    (tried : IsTried (work_of (Unit {0}) (disks_of old) (disks_of new)) revision stamp [] (Ok tt)) (same_sizes : (disks_of new).sizes ≡ (disks_of old).sizes)
+module _ (large : Bool) (revision : Revision) (stamp : Stamp) (old new : MemoryBay)
+    (tried : IsTried (work_of (Unit {0}) (disks_of old) (disks_of new)) large revision stamp [] (Ok tt)) (same_sizes : (disks_of new).sizes ≡ (disks_of old).sizes)
     (told : (disks_of old).tells_left) where
   abbrev sizes : List ℕ
   sizes = (disks_of old).sizes
@@ -127,7 +127,7 @@ module _ (revision : Revision) (stamp : Stamp) (old new : MemoryBay)
   slots = label_slots sizes []
 
   abbrev copy : ℕ → DiskCopy
-  copy = label_copy revision stamp sizes []
+  copy = label_copy large revision stamp sizes []
 
   abbrev first : Past (groups (name_of stamp))
   first = begins (name_of stamp) sizes copy
@@ -137,7 +137,7 @@ module _ (revision : Revision) (stamp : Stamp) (old new : MemoryBay)
 
   pub listed : (slot : ℕ) → slot < length sizes → has_current (founding_config copy) (first.disk slot) ≡ true
   listed slot low =
-      founded_listed label_layout revision stamp sizes slots (chosen_once sizes []) (disks_of new).held (is_slot slots)
+      founded_listed (label_layout large sizes []) revision stamp sizes slots (chosen_once sizes []) (disks_of new).held (is_slot slots)
       (all_founded (disks_of old) (disks_of new) slots copy (tried tt).1) first new_group (λ one. true) slot (slot_there sizes slot low)
 
   pub label_begins : IsBegun (name_of stamp) (length sizes) copy new
@@ -145,7 +145,7 @@ module _ (revision : Revision) (stamp : Stamp) (old new : MemoryBay)
     past = first;
     history = record {
       kept =
-          founded_since label_layout revision stamp (disks_of old) (disks_of new) same_sizes slots (chosen_once sizes []) (tried tt).1 first new_group
+          founded_since (label_layout large sizes []) revision stamp (disks_of old) (disks_of new) same_sizes slots (chosen_once sizes []) (tried tt).1 first new_group
           (reads_left old told) (λ image left. names_new sizes (name_of stamp) copy image);
       same_slots = sym (ap length same_sizes);
       own = omega arith;

@@ -62,7 +62,7 @@ is_over : (group : List ℕ) (past : Past (groups group)) (readable : ℕ → Bo
     → (now : Past (groups group)) → Ends group past readable found changes (is_done outcome) now → IsOver group past readable found changes now
 is_over group past readable found changes outcome sequence done now ends = subst (λ (one : Result ℕ Failure). Ends group past readable found changes (is_done one) now) done ends
 
-module _ (revision : Revision) (stamp : Stamp) (kept lost : ℕ) (life : IsLife revision stamp kept lost) where
+module _ (large : Bool) (revision : Revision) (stamp : Stamp) (kept lost : ℕ) (life : IsLife large revision stamp kept lost) where
   abbrev group : List ℕ
   group = name_of stamp
 
@@ -71,8 +71,8 @@ module _ (revision : Revision) (stamp : Stamp) (kept lost : ℕ) (life : IsLife 
 
   -- ---- the label
 
-  begun : IsBegun group (length sizes) (label_copy revision stamp sizes []) life.labelled
-  begun = label_begins revision stamp life.blank life.labelled life.label life.same_sizes life.tells_blank
+  begun : IsBegun group (length sizes) (label_copy large revision stamp sizes []) life.labelled
+  begun = label_begins large revision stamp life.blank life.labelled life.label life.same_sizes life.tells_blank
 
   abbrev founded : Past (groups group)
   founded = begun.past
@@ -265,7 +265,7 @@ module _ (revision : Revision) (stamp : Stamp) (kept lost : ℕ) (life : IsLife 
       member_on group in_the_end life.back end_history (before_told life.back life.last_exit life.last.well life.last_tells) kept
       (subst (λ (all : List ℕ). kept < length all) (sym same_back) life.kept_there) life.kept_back third_current
 
-  pub outlives : Outlives revision stamp kept lost life
+  pub outlives : Outlives large revision stamp kept lost life
   outlives = record {
     begun = begun;
     after_first = after_first;

@@ -1,5 +1,5 @@
 //! Laws of the headline in use: functions that do nothing, whose contracts are the laws. docs/PROOF.md#proved
-ghost use Rattle.std.specs.Prelude.{◌≡◌, ◌<◌, ◌+◌, ◌-◌, ◌^◌, ℕ, List, [], Ok, Err, length};
+ghost use Rattle.std.specs.Prelude.{◌≡◌, ◌<◌, ◌+◌, ◌-◌, ◌^◌, ℕ, Bool, List, [], Ok, Err, length};
 ghost use Rattle.ddf_bytes.specs.declared.stamp.Stamp.{Stamp};
 ghost use Rattle.ddf_header.specs.declared.kind.Revision.{Revision};
 ghost use Rattle.ddf_bay.specs.Memory.{disks_of};
@@ -19,9 +19,9 @@ ghost use Rattle.ddf_history_life.specs.Life.{IsLife, Outlives};
 
 /// A `label` of all disks of a bay in memory begins a history of the new group: there is one, and the names are new, since no slot is left over.
 pub fn a_label_of_all_disks_begins_a_history()
-    ensures { (revision : Revision) (stamp : Stamp) (old new : MemoryBay) → IsTried (work_of (Unit {0}) (disks_of old) (disks_of new)) revision stamp [] (Ok tt)
+    ensures { (large : Bool) (revision : Revision) (stamp : Stamp) (old new : MemoryBay) → IsTried (work_of (Unit {0}) (disks_of old) (disks_of new)) large revision stamp [] (Ok tt)
         → (disks_of new).sizes ≡ (disks_of old).sizes → (disks_of old).tells_left
-        → IsBegun (name_of stamp) (length (disks_of old).sizes) (label_copy revision stamp (disks_of old).sizes []) new }
+        → IsBegun (name_of stamp) (length (disks_of old).sizes) (label_copy large revision stamp (disks_of old).sizes []) new }
 {}
 
 /// Each command on the group, of which one current member can be read, goes on in its history, whatever it comes to: at its end, where the bay
@@ -60,5 +60,5 @@ pub fn a_command_tells_what_is_promised()
 /// contradict each other.
 // promise:acknowledged
 pub fn what_was_acknowledged_outlives_stops_and_a_lost_disk()
-    ensures { (revision : Revision) (stamp : Stamp) (kept lost : ℕ) (life : IsLife revision stamp kept lost) → Outlives revision stamp kept lost life }
+    ensures { (large : Bool) (revision : Revision) (stamp : Stamp) (kept lost : ℕ) (life : IsLife large revision stamp kept lost) → Outlives large revision stamp kept lost life }
 {}

@@ -122,8 +122,8 @@ const CAUSES: [Cause; 49] = [
     Cause {
         number: 21,
         command: "label",
-        why: "A group has at most 15 disks.",
-        way: "Label at most 15 disks together.",
+        why: "A group has at most 63 disks.",
+        way: "Label at most 63 disks together.",
     },
     Cause {
         number: 21,
@@ -182,8 +182,8 @@ const CAUSES: [Cause; 49] = [
     Cause {
         number: 28,
         command: "label",
-        why: "A disk needs at least 33000 sectors, and has FOUND.",
-        way: "Take a larger disk.",
+        why: "A disk has FOUND sectors, and needs at least NEEDED: 33000, or 33320 with large, or for more than 15 disks.",
+        way: "Take a larger disk, or label 15 disks at most, without large.",
     },
     Cause {
         number: 28,

@@ -3,8 +3,8 @@ use ddf_batch::serve;
 use ddf_bay::Bay;
 use ddf_bytes::{MemorySink, MemorySource, Stamp};
 use ddf_command::{Command, DiskStyle, asked, slot_paths};
+use ddf_disk_commands::layout_for;
 use ddf_scenario::{Program, Seen, Sight};
-use ddf_update::NewLayout;
 use std::alloc::Global;
 
 /// The call that the program `ddf` makes.
@@ -26,8 +26,12 @@ impl Program for Ddf {
         match asked.command {
             Command::Label {
                 style: DiskStyle::Linux,
-                ..
-            } => sight.founds = Some(NewLayout::Small),
+                large,
+                slots,
+            } => {
+                let disks = self.disks(words);
+                sight.founds = Some(layout_for(large, slots.items(), disks));
+            }
             Command::Examine => sight.by_logs = false,
             _ => {}
         }

@@ -6,12 +6,10 @@ use ddf_bay::Bay;
 use ddf_bytes::NoMemory;
 use ddf_config::{extents, least_start, ranges_on};
 use ddf_copy::anchor_of;
+use ddf_disk_commands::layout_for;
 use ddf_edge::OneLine;
 use ddf_refusals::Refused;
 use ddf_words::{Asked, Command, Creation, Wish};
-
-/// The least sectors of a disk that can be labelled.
-const LEAST_SECTORS: u64 = 33_000;
 
 /// Says on standard error by how much a command was refused that makes disks or arrays, or fills a spare.
 pub fn name_numbers<R, B: Bay>(
@@ -29,10 +27,13 @@ where
         (Command::Change(Wish::Create(creation)), 20) => {
             return name_room(rt, bay, paths, asked, creation);
         }
-        (Command::Label { .. }, 28) => name_small(rt, bay, paths),
+        (Command::Label { large, slots, .. }, 28) => {
+            let layout = layout_for(*large, slots.items(), bay.slots());
+            name_small(rt, bay, paths, slots.items(), layout.least_sectors());
+        }
         (Command::Label { .. }, 21) => {
             let count = paths.len();
-            let _ = eprintln!(rt; "ddf: {count} disks are named, and a group has at most 15");
+            let _ = eprintln!(rt; "ddf: {count} disks are named, and a group has at most 63");
         }
         (Command::Rebuild { name }, 28) => {
             return name_spares(rt, bay, paths, asked, name.items());
@@ -43,14 +44,15 @@ where
     Ok(())
 }
 
-/// Names each disk that is too small to be labelled.
-fn name_small<R: Eprint, B: Bay>(rt: &R, bay: &B, paths: &[String]) {
+/// Names each of these slots, or of all where there are none, whose disk is too small to be labelled, for it has less than so many sectors.
+fn name_small<R: Eprint, B: Bay>(rt: &R, bay: &B, paths: &[String], slots: &[u8], least: u64) {
     for (slot, path) in paths.iter().enumerate() {
-        if slot < bay.slots() && bay.size(slot) < LEAST_SECTORS {
+        let is_named = slots.is_empty() || slots.iter().any(|other| usize::from(*other) == slot);
+        if is_named && slot < bay.slots() && bay.size(slot) < least {
             let size = bay.size(slot);
             let path = OneLine(path);
             let _ = eprintln!(rt;
-                "ddf: slot {slot} ({path}) has {size} sectors of the {LEAST_SECTORS} that it needs"
+                "ddf: slot {slot} ({path}) has {size} sectors of the {least} that it needs"
             );
         }
     }

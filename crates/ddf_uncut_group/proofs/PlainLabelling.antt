@@ -19,10 +19,12 @@ use Rattle.ddf_copy.specs.Headers.{anchor_header}
 use Rattle.ddf_config.specs.declared.refusal.FullTable.TheVariants.{Disks}
 use Rattle.ddf_config.specs.declared.refusal.Refusal.TheVariants.{Full, NoSlot, NotBlank, Small}
 use Rattle.ddf_update.specs.Group.{HaveFirstCopies, slot_sizes}
+use Rattle.ddf_update.specs.declared.new_layout.NewLayout.{NewLayout}
+use Rattle.ddf_update.specs.declared.new_layout.NewLayout.TheVariants as layouts
 use Rattle.ddf_update.specs.NewCopies.{new_copy}
 use Rattle.ddf_update.specs.Update.{AreBoth}
 use Rattle.ddf_disk_commands.specs.Label.{label_copy, label_slots}
-use Rattle.ddf_disk_commands.specs.LabelRefusal.{chosen, is_anchored, is_blank, is_chosen, is_small, label_layout, label_refusal, least_sectors, missing, most_disks, unfit}
+use Rattle.ddf_disk_commands.specs.LabelRefusal.{chosen, is_anchored, is_blank, is_chosen, is_small, label_layout, label_refusal, missing, unfit}
 use Rattle.ddf_rewrite.proofs.Lists.{all_by_get}
 use Rattle.ddf_uncut_group.specs.Labelled.{labelled_group}
 use Rattle.ddf_uncut_group.specs.Settled.{AreSettledAs}
@@ -61,6 +63,16 @@ sizes_all sizes =
     ∙ placed_all (slice_index sizes) 0 sizes
     (λ k size at. let here : 0 + k ≡ k = omega arith in ap (slice_index sizes) here ∙ get_or_from_slice_get sizes k size 0 at)
 
+counted : (sizes : List ℕ) → length (label_slots sizes []) ≡ length sizes
+counted sizes = ap length (slots_all sizes) ∙ range_long 0 (length sizes)
+
+-- Few disks are those of a small group.
+small_layout : (sizes : List ℕ) → length sizes ≤ 15 → label_layout false sizes [] ≡ layouts.Small
+small_layout sizes few =
+    let same = counted sizes in
+    let many : nat_lt 15 (length (label_slots sizes [])) ≡ false = le-ltb 15 (length (label_slots sizes [])) (omega (arith, few, same)) in
+    rw many refl
+
 -- ---- what isn't refused
 
 -- Where a test finds none, each fails it.
@@ -74,30 +86,29 @@ none_found {X} test (y ∷ ys) none k x at = by (test y) refl none k at (none_fo
     by false is none zero at later = let same : y ≡ x = cc in ap test (sym same) ∙ is
     by false is none (suc k) at later = later (rw is at none) k x at
 
--- A bay on which `label` of all slots isn't refused has slots, and these are few and large.
+-- A bay of few slots on which `label` of all of them isn't refused has slots, and these are large.
 pub record AreFit (sizes : List ℕ) : Type 0 where
   pub some : 0 < length sizes
   pub few : length sizes ≤ 15
   pub large : (place : ℕ) → place < length sizes → 33000 ≤ get_or sizes place 0
 
-pub fit_unrefused : (sizes : List ℕ) (held : Image) → label_refusal sizes held [] ≡ None → AreFit sizes
+fit_unrefused : (sizes : List ℕ) (held : Image) → length sizes ≤ 15 → label_refusal false sizes held [] ≡ None → AreFit sizes
 unfolding label_refusal
-fit_unrefused sizes held none =
+fit_unrefused sizes held few none =
     let slots = chosen (length sizes) [] in
     let all = slots_all sizes in
-    let parts = none_first (option_map NoSlot (missing (length sizes) []) ∷ unfit sizes held slots ∷ []) none in
+    let parts = none_first (option_map NoSlot (missing (length sizes) []) ∷ unfit (label_layout false sizes []) sizes held slots ∷ []) none in
     let there = none_when (length sizes == 0) 0 (none_map NoSlot (missing (length sizes) []) parts.0) in
+    let fits : unfit layouts.Small sizes held slots ≡ None = subst (λ (layout : NewLayout). unfit layout sizes held slots ≡ None) (small_layout sizes few) parts.1.0 in
     let own = none_first (option_map NotBlank (find (is_anchored sizes held) slots)
-    ∷ option_map (λ slot. Small least_sectors (slice_index sizes slot)) (find (is_small sizes) slots)
-    ∷ when (nat_lt most_disks (length slots)) (Full Disks)
-    ∷ []) parts.1.0 in
-    let large = none_found (is_small sizes) slots (none_map (λ slot. Small least_sectors (slice_index sizes slot)) (find (is_small sizes) slots) own.1.0) in
-    let few = ltb-false most_disks (length slots) (none_when (nat_lt most_disks (length slots)) (Full Disks) own.1.1.0) in
-    let counted : length slots ≡ length sizes = ap length all ∙ range_long 0 (length sizes) in
+    ∷ option_map (λ slot. Small 33000 (slice_index sizes slot)) (find (is_small layouts.Small sizes) slots)
+    ∷ when (nat_lt 15 (length slots)) (Full Disks)
+    ∷ []) fits in
+    let large = none_found (is_small layouts.Small sizes) slots (none_map (λ slot. Small 33000 (slice_index sizes slot)) (find (is_small layouts.Small sizes) slots) own.1.0) in
     record {
       some = some_by (length sizes) there;
-      few = omega (arith, few, counted);
-      large = λ place low. ltb-false (slice_index sizes place) least_sectors (large place place (ap (λ (every : List ℕ). slice_get every place) all ∙ range_there (length sizes) place low));
+      few = few;
+      large = λ place low. ltb-false (slice_index sizes place) 33000 (large place place (ap (λ (every : List ℕ). slice_get every place) all ∙ range_there (length sizes) place low));
     }
   where
     some_by : (count : ℕ) → (count == 0) ≡ false → 0 < count
@@ -114,23 +125,26 @@ sizes_fit (size ∷ sizes) fit (suc place) = sizes_fit sizes fit.1 place
 
 -- The disks of a bay whose slots all got their first copies are the new group, settled.
 settled_by : (revision : Revision) (stamp : Stamp) (sizes : List ℕ) (image : Image) → AreFit sizes → AllByRecursion (λ size. size < 2 ^ 64) sizes
-    → ((place : ℕ) → place < length sizes → AreBoth (slice_index sizes place) (image place) (anchor_header (new_copy label_layout revision stamp sizes place)) (new_copy label_layout revision stamp sizes place))
+    → ((place : ℕ) → place < length sizes → AreBoth (slice_index sizes place) (image place) (anchor_header (new_copy layouts.Small revision stamp sizes place)) (new_copy layouts.Small revision stamp sizes place))
     → AreSettledAs sizes image (replicate (length sizes) false) (labelled_group revision stamp sizes)
 settled_by revision stamp [] image are fit both = let some = are.some in absurd (omega (arith, some))
 settled_by revision stamp (size ∷ more) image are fit both = labelled_as revision stamp size more are.few are.large (sizes_fit (size ∷ more) fit) image both
 
-pub labelled_settles : {D : Type 0} (revision : Revision) (stamp : Stamp) (old new : BayState D) → label_refusal old.sizes old.held [] ≡ None → AllByRecursion (λ size. size < 2 ^ 64) old.sizes
-    → HaveFirstCopies old new (label_slots old.sizes []) (label_copy revision stamp old.sizes []) (length (label_slots old.sizes []))
+pub labelled_settles : {D : Type 0} (revision : Revision) (stamp : Stamp) (old new : BayState D) → length old.sizes ≤ 15 → label_refusal false old.sizes old.held [] ≡ None → AllByRecursion (λ size. size < 2 ^ 64) old.sizes
+    → HaveFirstCopies old new (label_slots old.sizes []) (label_copy false revision stamp old.sizes []) (length (label_slots old.sizes []))
     → AreSettledAs old.sizes new.held (replicate (length old.sizes) false) (labelled_group revision stamp old.sizes)
-labelled_settles revision stamp old new none fit first =
-    settled_by revision stamp old.sizes new.held (fit_unrefused old.sizes old.held none) fit
+labelled_settles revision stamp old new few none fit first =
+    settled_by revision stamp old.sizes new.held (fit_unrefused old.sizes old.held few none) fit
     (λ place low.
     let slots = label_slots old.sizes [] in
     let all = slots_all old.sizes in
     let at : slice_get slots place ≡ Some place = ap (λ (every : List ℕ). slice_get every place) all ∙ range_there (length old.sizes) place low in
     let within : place < length slots = slice_get_within slots place place at in
-    subst (λ (sizes : List ℕ). AreBoth (slice_index old.sizes place) (new.held place) (anchor_header (new_copy label_layout revision stamp sizes place)) (new_copy label_layout revision stamp sizes place)) (sizes_all old.sizes)
-    (first.are_both place place within at))
+    let placed = subst (λ (layout : NewLayout). AreBoth (slice_index old.sizes place) (new.held place)
+    (anchor_header (new_copy layout revision stamp (slot_sizes old.sizes slots) place)) (new_copy layout revision stamp (slot_sizes old.sizes slots) place)) (small_layout old.sizes few)
+    (first.are_both place place within at) in
+    subst (λ (sizes : List ℕ). AreBoth (slice_index old.sizes place) (new.held place) (anchor_header (new_copy layouts.Small revision stamp sizes place)) (new_copy layouts.Small revision stamp sizes place)) (sizes_all old.sizes)
+    placed)
 
 -- ---- disks of zeros
 
@@ -142,33 +156,34 @@ none_anchored sizes (slot ∷ slots) =
     rw blank (none_anchored sizes slots)
 
 -- None of large disks is small.
-none_small : (sizes slots : List ℕ) → AllByRecursion (λ slot. least_sectors ≤ slice_index sizes slot) slots → find (is_small sizes) slots ≡ None
+none_small : (sizes slots : List ℕ) → AllByRecursion (λ slot. 33000 ≤ slice_index sizes slot) slots → find (is_small layouts.Small sizes) slots ≡ None
 none_small sizes [] large = refl
 none_small sizes (slot ∷ slots) large =
-    let here : is_small sizes slot ≡ false = le-ltb (slice_index sizes slot) least_sectors large.0 in
+    let here : is_small layouts.Small sizes slot ≡ false = le-ltb (slice_index sizes slot) 33000 large.0 in
     rw here (none_small sizes slots large.1)
 
 -- So nothing refuses to label few large disks of zeros.
-pub zeros_unrefused : (sizes : List ℕ) → AreFit sizes → label_refusal sizes (held_of []) [] ≡ None
+pub zeros_unrefused : (sizes : List ℕ) → AreFit sizes → label_refusal false sizes (held_of []) [] ≡ None
 unfolding label_refusal
 zeros_unrefused sizes are =
     let slots = chosen (length sizes) [] in
     let all = slots_all sizes in
     let few = are.few in
     let some = are.some in
-    let counted : length slots ≡ length sizes = ap length all ∙ range_long 0 (length sizes) in
-    let large : AllByRecursion (λ slot. least_sectors ≤ slice_index sizes slot) slots =
-    subst (AllByRecursion (λ slot. least_sectors ≤ slice_index sizes slot)) (sym all)
-    (all_by_get (λ slot. least_sectors ≤ slice_index sizes slot) (range_with_len 0 (length sizes))
-    (λ k slot at. let placed = range_is 0 (length sizes) k slot at in let same = placed.0 in let below = placed.1 in are.large slot (omega (arith, same, below)))) in
+    let same = counted sizes in
+    let large : AllByRecursion (λ slot. 33000 ≤ slice_index sizes slot) slots =
+    subst (AllByRecursion (λ slot. 33000 ≤ slice_index sizes slot)) (sym all)
+    (all_by_get (λ slot. 33000 ≤ slice_index sizes slot) (range_with_len 0 (length sizes))
+    (λ k slot at. let placed = range_is 0 (length sizes) k slot at in let here = placed.0 in let below = placed.1 in are.large slot (omega (arith, here, below)))) in
     let there : (length sizes == 0) ≡ false = ne_eqb (length sizes) 0 (λ (none : length sizes ≡ 0). absurd (omega (arith, none, some))) in
-    let many : nat_lt most_disks (length slots) ≡ false = le-ltb most_disks (length slots) (omega (arith, few, counted)) in
-    none_of (missing (length sizes) []) (find (is_anchored sizes (held_of [])) slots) (find (is_small sizes) slots) (nat_lt most_disks (length slots))
-    (ap (λ (none : Bool). when none 0) there) (none_anchored sizes slots) (none_small sizes slots large) many
+    let many : nat_lt 15 (length slots) ≡ false = le-ltb 15 (length slots) (omega (arith, few, same)) in
+    subst (λ (layout : NewLayout). first_of (option_map NoSlot (missing (length sizes) []) ∷ unfit layout sizes (held_of []) slots ∷ []) ≡ None) (sym (small_layout sizes few))
+    (none_of (missing (length sizes) []) (find (is_anchored sizes (held_of [])) slots) (find (is_small layouts.Small sizes) slots) (nat_lt 15 (length slots))
+    (ap (λ (none : Bool). when none 0) there) (none_anchored sizes slots) (none_small sizes slots large) many)
   where
     none_of : (lacking anchored small : Option ℕ) (many : Bool) → lacking ≡ None → anchored ≡ None → small ≡ None → many ≡ false
         → first_of (option_map NoSlot lacking
-        ∷ first_of (option_map NotBlank anchored ∷ option_map (λ slot. Small least_sectors (slice_index sizes slot)) small ∷ when many (Full Disks) ∷ [])
+        ∷ first_of (option_map NotBlank anchored ∷ option_map (λ slot. Small 33000 (slice_index sizes slot)) small ∷ when many (Full Disks) ∷ [])
         ∷ []) ≡ None
     none_of lacking anchored small many p q r s = rw (p, q, r, s) refl
 
@@ -180,7 +195,7 @@ all_large (size ∷ sizes) large (suc place) low = all_large sizes large.1 place
 
 -- Nor does it on a bay in memory that was just made.
 pub memory_unrefused : (bay : MemoryBay) (sizes : List ℕ) (writes : ℕ) (failing : List ℕ) (stop_after : Option ℕ) → state_of bay ≡ blank sizes writes failing stop_after
-    → 0 < length sizes → length sizes ≤ 15 → AllByRecursion (λ size. 33000 ≤ size) sizes → label_refusal (disks_of bay).sizes (disks_of bay).held [] ≡ None
+    → 0 < length sizes → length sizes ≤ 15 → AllByRecursion (λ size. 33000 ≤ size) sizes → label_refusal false (disks_of bay).sizes (disks_of bay).held [] ≡ None
 memory_unrefused bay sizes writes failing stop_after is some few large =
-    ap (λ (state : MemoryState). label_refusal state.sizes (held_of state.logged) []) is
+    ap (λ (state : MemoryState). label_refusal false state.sizes (held_of state.logged) []) is
     ∙ zeros_unrefused sizes (record { some = some; few = few; large = all_large sizes large })

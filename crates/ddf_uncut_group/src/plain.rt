@@ -106,12 +106,12 @@ pub fn a_change_of_plain_disks_has_room()
     ensures labelled { (stamp : Stamp) (sizes : List ℕ) → length sizes ≤ rows_of Small → HasRoom (labelled_config stamp sizes) }
 {}
 
-/// The disks of a bay of which every slot was labelled are the new group, settled: each slot is a seat, and each disk
+/// The disks of a bay of which every slot was labelled, no more than a small group has, are the new group, settled: each slot is a seat, and each disk
 /// a member that is no spare, with the sectors before its workspace.
 pub fn labelled_disks_are_a_settled_group<B: Bay>()
-    ensures { (revision : Revision) (stamp : Stamp) (old new : B) → label_refusal (B.disks old).sizes (B.disks old).held [] ≡ None
+    ensures { (revision : Revision) (stamp : Stamp) (old new : B) → length (B.disks old).sizes ≤ rows_of Small → label_refusal false (B.disks old).sizes (B.disks old).held [] ≡ None
         → AllByRecursion (λ size. size < 2 ^ 64) (B.disks old).sizes
-        → HaveFirstCopies (B.disks old) (B.disks new) (label_slots (B.disks old).sizes []) (label_copy revision stamp (B.disks old).sizes []) (length (label_slots (B.disks old).sizes []))
+        → HaveFirstCopies (B.disks old) (B.disks new) (label_slots (B.disks old).sizes []) (label_copy false revision stamp (B.disks old).sizes []) (length (label_slots (B.disks old).sizes []))
         → AreSettledAs (B.disks old).sizes (B.disks new).held (replicate (length (B.disks old).sizes) false) (labelled_group revision stamp (B.disks old).sizes) }
 {}
 
@@ -124,5 +124,5 @@ pub fn references_of_labelled_disks_are_distinct()
 /// Nothing refuses to label all slots of a bay in memory that was just made, where these are few and large.
 pub fn disks_of_zeros_may_be_labelled()
     ensures { (bay : MemoryBay) (sizes : List ℕ) (writes : ℕ) (failing : List ℕ) (stop_after : Option ℕ) → state_of bay ≡ blank sizes writes failing stop_after
-        → 0 < length sizes → length sizes ≤ rows_of Small → AllByRecursion (λ size. least_sectors Small ≤ size) sizes → label_refusal (disks_of bay).sizes (disks_of bay).held [] ≡ None }
+        → 0 < length sizes → length sizes ≤ rows_of Small → AllByRecursion (λ size. least_sectors Small ≤ size) sizes → label_refusal false (disks_of bay).sizes (disks_of bay).held [] ≡ None }
 {}

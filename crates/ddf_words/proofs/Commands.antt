@@ -48,7 +48,7 @@ join_words = codes "import"
 -- the name of a command
 abbrev pub name_of : Command → Word
 name_of Examine = examine
-name_of (Label style slots) = label
+name_of (Label style large slots) = label
 name_of Assemble = assemble
 name_of Show = show
 name_of (Read name start count) = read
@@ -63,7 +63,7 @@ name_of (Change wish) = wish_name wish
 -- with it the words begin
 pub begins_with : (words : List Word) (command : Command) → Spells command words → first_word words ≡ name_of command
 begins_with words Examine spells = ap first_word spells
-begins_with words (Label style slots) spells = ap first_word spells.parts
+begins_with words (Label style large slots) spells = ap first_word spells.parts
 begins_with words Assemble spells = ap first_word spells
 begins_with words Show spells = ap first_word spells
 begins_with words (Read name start count) spells = ap first_word spells.parts
@@ -102,9 +102,9 @@ examine_alone rest (Change wish) spells = absurd (no_wish examine (refl, refl, r
 examine_alone rest command spells = absurd (unlike examine (name_of command) refl (begins_with (examine ∷ rest) command spells))
 
 pub label_names : (rest : List Word) (command : Command) → Spells command (label ∷ rest) → NameDisks rest
-label_names rest (Label style slots) spells =
+label_names rest (Label style large slots) spells =
     let same : rest ≡ spells.rest = ap (drop 1) spells.parts in
-    record { style = style; slots = slots; are_disks = rw same spells.are_disks }
+    record { style = style; large = large; slots = slots; are_disks = rw same spells.are_disks }
 label_names rest (Change wish) spells = absurd (no_wish label (refl, refl, refl, refl, refl) wish (wish_begins (label ∷ rest) wish spells))
 label_names rest command spells = absurd (unlike label (name_of command) refl (begins_with (label ∷ rest) command spells))
 
@@ -220,10 +220,10 @@ pub same_command : (words : List Word) (command command' : Command) → Spells c
 same_command words Examine Examine spells spells' = refl
 same_command words Assemble Assemble spells spells' = refl
 same_command words Show Show spells spells' = refl
-same_command words (Label style slots) (Label style' slots') spells spells' =
+same_command words (Label style large slots) (Label style' large' slots') spells spells' =
     let rest : spells.rest ≡ spells'.rest = ap (drop 1) (sym spells.parts ∙ spells'.parts) in
-    let same = same_disks style style' slots slots' spells'.rest (rw rest at spells.are_disks) spells'.are_disks in
-    λ i. Label (same.0 i) (same.1 i)
+    let same = same_disks style style' large large' slots slots' spells'.rest (rw rest at spells.are_disks) spells'.are_disks in
+    λ i. Label (same.0 i) (same.1 i) (same.2 i)
 same_command words (Read name start count) (Read name' start' count') spells spells' = same_blocks read words name name' start start' count count' spells spells' Read
 same_command words (Scrub name) (Scrub name') spells spells' = ap Scrub (same_named scrub words name name' spells spells')
 same_command words (Resync name) (Resync name') spells spells' = ap Resync (same_named resync words name name' spells spells')
@@ -242,7 +242,7 @@ same_command words command command' spells spells' =
 -- a command of another name takes a group
 pub over_group : (name : Word) (more : List Word) → name ≢ examine → name ≢ label → (command : Command) → Spells command (name ∷ more) → IsGroupCommand (name ∷ more)
 over_group name more not_examine not_label Examine spells = absurd (not_examine (ap first_word spells))
-over_group name more not_examine not_label (Label style slots) spells = absurd (not_label (ap first_word spells.parts))
+over_group name more not_examine not_label (Label style large slots) spells = absurd (not_label (ap first_word spells.parts))
 over_group name more not_examine not_label command spells = record { command = command; takes_one = refl; spells = spells }
 
 -- another name is none of a command over a group
@@ -264,7 +264,7 @@ pub record IsOther (name : Word) : Type 0 where
 
 pub other_name : (name : Word) → IsOther name → (command : Command) → (traits_of command).takes_group ≡ true → name ≢ name_of command
 other_name name other Examine takes e = cc
-other_name name other (Label style slots) takes e = cc
+other_name name other (Label style large slots) takes e = cc
 other_name name other Assemble takes e = other.assemble e
 other_name name other Show takes e = other.show e
 other_name name other (Read array start count) takes e = other.read e

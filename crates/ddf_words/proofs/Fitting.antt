@@ -49,7 +49,7 @@ fits_wish other words spells = tt
 
 fits : (command : Command) (words : List Word) → Spells command words → FitsCommand command
 fits Examine words spells = tt
-fits (Label style slots) words spells = tt
+fits (Label style large slots) words spells = tt
 fits Assemble words spells = tt
 fits Show words spells = tt
 fits (Read name start count) words spells = tt

@@ -25,7 +25,7 @@ more_words words rest next e = rw e (wrong_word IsCommand (examine ∷ next ∷ 
 pub wrong_disks : (words rest : List Word) (place : ℕ) → words ≡ label ∷ rest → GoWrongAt NameDisks rest place → GoWrongAt IsCommand words (1 + place)
 wrong_disks words rest place e wrong = rw e (wrong_behind NameDisks IsCommand label rest place
     (λ more is. label_names more is.command is.spells)
-    (λ more is. record { command = Label is.style is.slots; spells = record { rest = more; parts = refl; are_disks = is.are_disks } })
+    (λ more is. record { command = Label is.style is.large is.slots; spells = record { rest = more; parts = refl; are_disks = is.are_disks } })
     wrong)
 
 -- a command of another name takes a group

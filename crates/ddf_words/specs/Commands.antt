@@ -40,7 +40,7 @@ FitsWish other = Unit {0}
 -- and those of a command
 abbrev pub FitsCommand : Command → Type 0
 FitsCommand Examine = Unit {0}
-FitsCommand (Label style slots) = Unit {0}
+FitsCommand (Label style large slots) = Unit {0}
 FitsCommand Assemble = Unit {0}
 FitsCommand Show = Unit {0}
 FitsCommand (Read name start count) = Unit {0}

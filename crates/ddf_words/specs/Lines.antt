@@ -93,7 +93,7 @@ is_line_name word = list_any (λ name. bytes_eq word name) line_names
 -- a line may ask for each command over a group but those whose bytes stand on the input or the output
 abbrev pub is_for_lines : Command → Bool
 is_for_lines Examine = false
-is_for_lines (Label style slots) = false
+is_for_lines (Label style large slots) = false
 is_for_lines Assemble = true
 is_for_lines Show = true
 is_for_lines (Read name start count) = false

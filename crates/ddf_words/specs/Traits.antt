@@ -25,7 +25,7 @@ makes_guid other = false
 -- a row a command
 abbrev pub traits_of : Command → Traits
 traits_of Examine = row false false false false false
-traits_of (Label style slots) = row false true true true false
+traits_of (Label style large slots) = row false true true true false
 traits_of Assemble = row true true true false false
 traits_of Show = row true false true false false
 traits_of (Read name start count) = row true false true false false

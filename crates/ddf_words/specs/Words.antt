@@ -1,5 +1,5 @@
 -- The words of `ddf`: which lists of words ask for which command, and where other words go wrong.
-use Rattle.std.specs.Prelude.{◌≡◌, ◌≢◌, ◌⊎◌, ℕ, ◌≤◌, ◌<◌, ◌^◌, List, [], ◌∷◌, ◌++◌, length, map, take, slice_index, slice_index_or, Bool, true, ◌&&◌, nat_le, Option, Some, None, codes, string_bytes, if◌then◌else◌}
+use Rattle.std.specs.Prelude.{◌≡◌, ◌≢◌, ◌⊎◌, ℕ, ◌≤◌, ◌<◌, ◌^◌, List, [], ◌∷◌, ◌++◌, length, map, take, slice_index, slice_index_or, Bool, true, false, ◌&&◌, nat_le, Option, Some, None, codes, string_bytes, if◌then◌else◌}
 use Rattle.std.specs.List.{All, AllPass, join_with_byte, position}
 use Rattle.std.specs.Str.{bytes_eq}
 use Rattle.std.specs.Fmt.{decimal}
@@ -55,17 +55,28 @@ abbrev pub style_words : DiskStyle → List Word
 style_words Standard = []
 style_words Linux = codes "linux" ∷ []
 
--- The words are those of a style, and then the numbers of these slots.
-pub record SpellDisks (style : DiskStyle) (slots : List ℕ) (words : List Word) : Type 0 where
+-- the words of how large their group is: none where nothing is said of it
+abbrev pub size_words : (large : Bool) → List Word
+size_words false = []
+size_words true = codes "large" ∷ []
+
+-- The words are those of a size, and then the numbers of these slots.
+pub record SpellSized (large : Bool) (slots : List ℕ) (words : List Word) : Type 0 where
   pub numbers : List Word
-  pub parts : words ≡ style_words style ++ numbers
+  pub parts : words ≡ size_words large ++ numbers
   pub are_slots : AreSlotWords slots numbers
 
+-- The words are those of a style, and then those of disks of a size.
+pub record SpellDisks (style : DiskStyle) (large : Bool) (slots : List ℕ) (words : List Word) : Type 0 where
+  pub rest : List Word
+  pub parts : words ≡ style_words style ++ rest
+  pub are_sized : SpellSized large slots rest
+
 -- The words are `label` and then those of new disks.
-pub record SpellLabel (style : DiskStyle) (slots : List ℕ) (words : List Word) : Type 0 where
+pub record SpellLabel (style : DiskStyle) (large : Bool) (slots : List ℕ) (words : List Word) : Type 0 where
   pub rest : List Word
   pub parts : words ≡ codes "label" ∷ rest
-  pub are_disks : SpellDisks style slots rest
+  pub are_disks : SpellDisks style large slots rest
 
 -- The word is this number in decimal, without a sign and without a leading zero, and the number is at most so much.
 pub record SpellsNumber (most number : ℕ) (word : Word) : Type 0 where
@@ -250,7 +261,7 @@ pub record SpellImport (group : List ℕ) (words : List Word) : Type 0 where
 -- and of each command
 abbrev pub Spells : Command → List Word → Type 0
 Spells Examine words = words ≡ codes "examine" ∷ []
-Spells (Label style slots) words = SpellLabel style slots words
+Spells (Label style large slots) words = SpellLabel style large slots words
 Spells Assemble words = words ≡ codes "assemble" ∷ []
 Spells Show words = words ≡ codes "show" ∷ []
 Spells (Read name start count) words = SpellBlocks (codes "read") name start count words
@@ -327,11 +338,18 @@ pub record NameSlots (words : List Word) : Type 0 where
   pub slots : List ℕ
   pub are_slots : AreSlotWords slots words
 
+-- some new disks of some size are named so
+pub record NameSized (words : List Word) : Type 0 where
+  pub large : Bool
+  pub slots : List ℕ
+  pub are_sized : SpellSized large slots words
+
 -- some new disks are named so
 pub record NameDisks (words : List Word) : Type 0 where
   pub style : DiskStyle
+  pub large : Bool
   pub slots : List ℕ
-  pub are_disks : SpellDisks style slots words
+  pub are_disks : SpellDisks style large slots words
 
 -- some number of at most so much is spelled so
 pub record IsNumber (most : ℕ) (word : Word) : Type 0 where

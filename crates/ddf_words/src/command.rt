@@ -22,6 +22,8 @@ pub enum Command {
     Label {
         /// How the disks are made.
         style: DiskStyle,
+        /// Whether the group is to be a large one, whatever the number of its disks.
+        large: bool,
         /// The slots, each from 0 to 63, in the order of the words.
         slots: Seq<u8>,
     },

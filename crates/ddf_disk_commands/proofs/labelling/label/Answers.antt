@@ -15,7 +15,7 @@ returns-in-Ok-clause-done g c = rw (← c.revision_of.ensures) (record {
 })
 
 pub returns-in-Ok-clause-ends : goal.returns-in-Ok-clause-ends
-returns-in-Ok-clause-ends g c = label_ends _ c.args.style (revision_of c.args.style) _ _ _ (returns-in-Ok-clause-done g c) c.tell.ensures.stream c.labelled.ensures.goes_on c.labelled.ensures.same_sizes
+returns-in-Ok-clause-ends g c = label_ends _ c.args.style c.args.large (revision_of c.args.style) _ _ _ (returns-in-Ok-clause-done g c) c.tell.ensures.stream c.labelled.ensures.goes_on c.labelled.ensures.same_sizes
 
 pub returns-in-Err-clause-done : goal.returns-in-Err-clause-done
 returns-in-Err-clause-done g c = rw (← c.revision_of.ensures) (record {
@@ -29,4 +29,4 @@ returns-in-Err-clause-done g c = rw (← c.revision_of.ensures) (record {
 })
 
 pub returns-in-Err-clause-ends : goal.returns-in-Err-clause-ends
-returns-in-Err-clause-ends g c = label_ends _ c.args.style (revision_of c.args.style) _ _ _ (returns-in-Err-clause-done g c) c.tell_failure.ensures.stream c.labelled.ensures.goes_on c.labelled.ensures.same_sizes
+returns-in-Err-clause-ends g c = label_ends _ c.args.style c.args.large (revision_of c.args.style) _ _ _ (returns-in-Err-clause-done g c) c.tell_failure.ensures.stream c.labelled.ensures.goes_on c.labelled.ensures.same_sizes

@@ -8,7 +8,7 @@ pub found_disks-requires : goal.found_disks-requires
 found_disks-requires g c =
     let first = rw c.deref.ensures.value at c.in-Ok-first_updates.ensures.first in
     let counted = rw c.deref.ensures.value at c.in-Ok-first_updates.ensures.counted in
-    rw (c.deref-2.ensures.value, c.deref-3.ensures.value) (slots_lie _ _ c.args.named.now c.in-Ok.slots.items c.args.revision c.args.stamp.now c.in-Ok-first_updates.updates.items c.in-Ok.ensures.reads c.in-Ok.ensures.slots counted first)
+    rw (c.deref-2.ensures.value, c.deref-3.ensures.value) (slots_lie _ _ c.args.large c.args.named.now c.in-Ok.slots.items c.args.revision c.args.stamp.now c.in-Ok-first_updates.updates.items c.in-Ok.ensures.reads c.in-Ok.ensures.slots counted first)
 
 pub returns-in-Ok-found_disks-clause-tried : goal.returns-in-Ok-found_disks-clause-tried
 returns-in-Ok-found_disks-clause-tried g c = λ tells.
@@ -16,7 +16,7 @@ returns-in-Ok-found_disks-clause-tried g c = λ tells.
     let counted = rw c.deref.ensures.value at c.in-Ok-first_updates.ensures.counted in
     let founded = rw (c.deref-2.ensures.value, c.deref-3.ensures.value) at (c.in-Ok-found_disks.ensures.founded tells) in
     let none = c.in-Ok.ensures.unrefused tells in
-    (none, label_founded _ _ c.args.named.now c.in-Ok.slots.items c.args.revision c.args.stamp.now c.in-Ok-first_updates.updates.items c.in-Ok.ensures.reads c.in-Ok.ensures.slots counted first _ none founded)
+    (none, label_founded _ _ c.args.large c.args.named.now c.in-Ok.slots.items c.args.revision c.args.stamp.now c.in-Ok-first_updates.updates.items c.in-Ok.ensures.reads c.in-Ok.ensures.slots counted first _ none founded)
 
 pub returns-in-Ok-found_disks-clause-unfailed : goal.returns-in-Ok-found_disks-clause-unfailed
 returns-in-Ok-found_disks-clause-unfailed g c = λ slot. ap (λ (counts : ℕ → ℕ). counts slot) c.in-Ok-found_disks.ensures.ok ∙ (c.in-Ok.ensures.quiet slot).1
@@ -26,7 +26,7 @@ returns-in-Ok-found_disks-clause-any_moment g c = λ tells.
     let first = rw c.deref.ensures.value at c.in-Ok-first_updates.ensures.first in
     let counted = rw c.deref.ensures.value at c.in-Ok-first_updates.ensures.counted in
     let step = rw (c.deref-2.ensures.value, c.deref-3.ensures.value) at (c.found_disks.ensures.any_moment tells) in
-    label_stops _ _ c.args.named.now c.in-Ok.slots.items c.args.revision c.args.stamp.now c.in-Ok-first_updates.updates.items c.in-Ok.ensures.reads c.in-Ok.ensures.slots counted first _ (c.in-Ok.ensures.unrefused tells) step
+    label_stops _ _ c.args.large c.args.named.now c.in-Ok.slots.items c.args.revision c.args.stamp.now c.in-Ok-first_updates.updates.items c.in-Ok.ensures.reads c.in-Ok.ensures.slots counted first _ (c.in-Ok.ensures.unrefused tells) step
 
 pub returns-clause-tried : goal.returns-clause-tried
 returns-clause-tried g c =
@@ -39,18 +39,18 @@ returns-clause-any_moment g c = λ tells.
     let first = rw c.deref.ensures.value at c.in-Ok-first_updates.ensures.first in
     let counted = rw c.deref.ensures.value at c.in-Ok-first_updates.ensures.counted in
     let step = rw (c.deref-2.ensures.value, c.deref-3.ensures.value) at (c.found_disks.ensures.any_moment tells) in
-    label_stops _ _ c.args.named.now c.in-Ok.slots.items c.args.revision c.args.stamp.now c.in-Ok-first_updates.updates.items c.in-Ok.ensures.reads c.in-Ok.ensures.slots counted first _ (c.in-Ok.ensures.unrefused tells) step
+    label_stops _ _ c.args.large c.args.named.now c.in-Ok.slots.items c.args.revision c.args.stamp.now c.in-Ok-first_updates.updates.items c.in-Ok.ensures.reads c.in-Ok.ensures.slots counted first _ (c.in-Ok.ensures.unrefused tells) step
 
 pub returns-in-Ok-found_disks-clause-costs : goal.returns-in-Ok-found_disks-clause-costs
 returns-in-Ok-found_disks-clause-costs g c =
     let first = rw c.deref.ensures.value at c.in-Ok-first_updates.ensures.first in
     let counted = rw c.deref.ensures.value at c.in-Ok-first_updates.ensures.counted in
     let spends = rw c.deref-3.ensures.value at c.found_disks.ensures.spends in
-    label_costs g.B.Bay.tells _ _ c.in-Ok.ensures.reads c.args.named.now c.in-Ok.slots.items c.in-Ok.ensures.slots c.args.revision c.args.stamp.now _ c.in-Ok-first_updates.updates.items first counted _ _ spends
+    label_costs g.B.Bay.tells _ _ c.in-Ok.ensures.reads c.args.large c.args.named.now c.in-Ok.slots.items c.in-Ok.ensures.slots c.args.revision c.args.stamp.now _ c.in-Ok-first_updates.updates.items first counted _ _ spends
 
 pub returns-clause-costs : goal.returns-clause-costs
 returns-clause-costs g c =
     let first = rw c.deref.ensures.value at c.in-Ok-first_updates.ensures.first in
     let counted = rw c.deref.ensures.value at c.in-Ok-first_updates.ensures.counted in
     let spends = rw c.deref-3.ensures.value at c.found_disks.ensures.spends in
-    label_costs g.B.Bay.tells _ _ c.in-Ok.ensures.reads c.args.named.now c.in-Ok.slots.items c.in-Ok.ensures.slots c.args.revision c.args.stamp.now _ c.in-Ok-first_updates.updates.items first counted _ _ spends
+    label_costs g.B.Bay.tells _ _ c.in-Ok.ensures.reads c.args.large c.args.named.now c.in-Ok.slots.items c.in-Ok.ensures.slots c.args.revision c.args.stamp.now _ c.in-Ok-first_updates.updates.items first counted _ _ spends

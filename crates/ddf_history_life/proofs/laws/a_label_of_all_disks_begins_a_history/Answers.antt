@@ -2,4 +2,4 @@ use Rattle.ddf_history_life.proofs.Labels.{label_begins}
 use Rattle.ddf_history_life.proofs.laws.a_label_of_all_disks_begins_a_history.Goals as goal
 
 pub returns : goal.returns
-returns c = λ revision stamp old new tried same_sizes told. label_begins revision stamp old new tried same_sizes told
+returns c = λ large revision stamp old new tried same_sizes told. label_begins large revision stamp old new tried same_sizes told

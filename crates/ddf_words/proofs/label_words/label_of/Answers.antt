@@ -5,20 +5,20 @@ use Rattle.ddf_words.proofs.Faults.{passed_on}
 use Rattle.ddf_words.proofs.Labels.{wrong_alone, wrong_linux}
 use Rattle.ddf_words.proofs.label_words.label_of.Goals as goal
 
-pub returns-in_err-slots-clause-place : goal.returns-in_err-slots-clause-place
-returns-in_err-slots-clause-place c = λ place e.
+pub returns-in_err-disks-clause-place : goal.returns-in_err-disks-clause-place
+returns-in_err-disks-clause-place c = λ place e.
     wrong_alone (words_of c.args.words.now) place (c.behind_linux.ensures.none c.in_default.is)
-    (c.slots_of.ensures.place place (passed_on c.slots_of.result c.in_err-slots.field-0.0 c.from_residual.result place c.in_err-slots.was c.from_residual.ensures.1 e))
+    (c.sized_of.ensures.place place (passed_on c.sized_of.result c.in_err-disks.field-0.0 c.from_residual.result place c.in_err-disks.was c.from_residual.ensures.1 e))
 
 -- where the words behind `linux` go wrong
-wrong_slots : (c : goal.In-Err-Place) → GoWrongAt NameDisks (words_of c.args.words.now) (1 + c.in-Err-Place.place)
-wrong_slots c = wrong_linux (words_of c.args.words.now) (words_of c.in-Some.rest.now) c.in-Err-Place.place c.in-Some.ensures.found
-    (c.slots_of-2.ensures.place c.in-Err-Place.place (c.in-Err-Place.is ∙ ap Err c.in-Err-Place.field-0-is))
+wrong_sized : (c : goal.In-Err-Place) → GoWrongAt NameDisks (words_of c.args.words.now) (1 + c.in-Err-Place.place)
+wrong_sized c = wrong_linux (words_of c.args.words.now) (words_of c.in-Some.rest.now) c.in-Err-Place.place c.in-Some.ensures.found
+    (c.sized_of-2.ensures.place c.in-Err-Place.place (c.in-Err-Place.is ∙ ap Err c.in-Err-Place.field-0-is))
 
 pub overflow_add-result : goal.overflow_add-result
-overflow_add-result c = omega (arith, (wrong_slots c).within, length-map c.args.words.now string_bytes)
+overflow_add-result c = omega (arith, (wrong_sized c).within, length-map c.args.words.now string_bytes)
 
 pub returns-in-Err-Place-clause-place : goal.returns-in-Err-Place-clause-place
 returns-in-Err-Place-clause-place c = λ place e.
     let same : 1 + c.in-Err-Place.place ≡ place = cc in
-    rw same at (wrong_slots c)
+    rw same at (wrong_sized c)

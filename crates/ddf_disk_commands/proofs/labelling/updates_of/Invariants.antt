@@ -1,7 +1,7 @@
 use Rattle.std.proofs.Common.{◌≡◌, length, take}
 use Rattle.ddf_update.specs.NewCopies.{sizes_of}
 use Rattle.ddf_update.specs.Group.{slot_sizes}
-use Rattle.ddf_disk_commands.proofs.labelling.first_updates.Given as goal
+use Rattle.ddf_disk_commands.proofs.labelling.updates_of.Given as goal
 
 abbrev pub invariant-loop-slot : goal.invariant-loop-slot
 invariant-loop-slot g l = record {
