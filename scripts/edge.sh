@@ -162,7 +162,7 @@ else
 fi
 
 if command -v strace >/dev/null; then
-    strace -o calls -e trace=write,fsync ./ddf new.img -- label >/dev/null
+    strace -o calls -e trace=write,pwrite64,fsync ./ddf new.img -- label >/dev/null
     case $(grep -B 1 '"ok sequence 1' calls | head -n 1) in
     "fsync("*" = 0") echo "edge: a disk is synced before it is said to be labelled" ;;
     *) fail "no sync of a labelled disk" ;;
@@ -551,7 +551,7 @@ if command -v flock >/dev/null && strace -o calls -e inject=fsync:delay_enter=1:
     done
     ends 3 "slot 0 fault" "another program holds a lock on it" "./ddf g0.img -- examine"
     wait "$writer" || fail "a writer ended so: $(cat late)"
-    strace -o calls -e trace=lseek -e inject=lseek:delay_enter=6000000:when=20 \
+    strace -o calls -e trace=pread64 -e inject=pread64:delay_enter=6000000:when=20 \
         ./ddf g0.img g1.img g2.img -- examine >late 2>&1 &
     reader=$!
     sleep 2

@@ -39,6 +39,26 @@ extern void *__libc_realloc(void *old, size_t size);
 
 static long counted;
 
+typedef ssize_t (*reads_at)(int, void *, size_t, off_t);
+typedef ssize_t (*writes_at)(int, const void *, size_t, off_t);
+
+/* The C library's own calls, behind those that stand here. */
+static reads_at real_pread(void)
+{
+    static reads_at real;
+    if (!real)
+        real = (reads_at)dlsym(RTLD_NEXT, "pread");
+    return real;
+}
+
+static writes_at real_pwrite(void)
+{
+    static writes_at real;
+    if (!real)
+        real = (writes_at)dlsym(RTLD_NEXT, "pwrite");
+    return real;
+}
+
 /* Whether a word of the environment is this one. */
 static int is_set(const char *name, const char *word)
 {
@@ -112,29 +132,28 @@ static int is_among(const char *names, const char *name)
     }
 }
 
-/* Whether a call that moves so many bytes of an image touches a bad sector. */
-static int is_bad(int file, const char *path, size_t length, const char *name)
+/* Whether a call that moves so many bytes of an image from a place on touches a bad sector. */
+static int is_bad(const char *path, off_t begin, size_t length, const char *name)
 {
     const char *images = getenv("BAD_IMAGE"), *range = getenv(name);
     long first, last;
     const char *own = strrchr(path, '/');
     if (!images || !range || !own || !is_among(images, own + 1) || sscanf(range, "%ld-%ld", &first, &last) != 2)
         return 0;
-    off_t begin = lseek(file, 0, SEEK_CUR);
     return begin < (last + 1) * 512 && begin + (off_t)length > first * 512;
 }
 
-/* Notes what a write is about to replace. */
-static void note(int file, size_t length)
+/* Notes what a write from a place on is about to replace. */
+static void note(int file, off_t at, size_t length)
 {
     struct pending *one = __libc_malloc(sizeof *one);
     one->file = file;
     one->copy = dup(file);
-    one->at = lseek(file, 0, SEEK_CUR);
+    one->at = at;
     one->length = length;
     one->old = __libc_malloc(length);
     one->before = pending;
-    if (pread(file, one->old, length, one->at) == (ssize_t)length)
+    if (real_pread()(file, one->old, length, at) == (ssize_t)length)
         pending = one;
 }
 
@@ -156,7 +175,7 @@ static void take_back(int each)
 {
     int number = 0;
     for (struct pending *one = pending; one; one = one->before)
-        if (number++ % each == 0 && pwrite(one->copy, one->old, one->length, one->at) < 0)
+        if (number++ % each == 0 && real_pwrite()(one->copy, one->old, one->length, one->at) < 0)
             _exit(70);
 }
 
@@ -182,13 +201,13 @@ static ssize_t fault(size_t length)
     return -1;
 }
 
-/* How many bytes a call of an image may move, or -1 where it fails. */
-static ssize_t allowed(int file, size_t length, const char *kind, const char *bad)
+/* How many bytes a call of an image may move from a place on, or -1 where it fails. */
+static ssize_t allowed(int file, off_t at, size_t length, const char *kind, const char *bad)
 {
     const char *path = image_of(file);
     if (!*path)
         return length;
-    if (bad && is_bad(file, path, length, bad)) {
+    if (bad && is_bad(path, at, length, bad)) {
         tell();
         errno = EIO;
         return -1;
@@ -196,24 +215,18 @@ static ssize_t allowed(int file, size_t length, const char *kind, const char *ba
     return is_due(kind) ? fault(length) : (ssize_t)length;
 }
 
-ssize_t read(int file, void *into, size_t length)
+ssize_t pread(int file, void *into, size_t length, off_t at)
 {
-    static ssize_t (*real)(int, void *, size_t);
-    if (!real)
-        real = (ssize_t (*)(int, void *, size_t))dlsym(RTLD_NEXT, "read");
-    ssize_t count = allowed(file, length, "read", "BAD_READS");
-    return count < 0 ? -1 : real(file, into, count);
+    ssize_t count = allowed(file, at, length, "read", "BAD_READS");
+    return count < 0 ? -1 : real_pread()(file, into, count, at);
 }
 
-ssize_t write(int file, const void *from, size_t length)
+ssize_t pwrite(int file, const void *from, size_t length, off_t at)
 {
-    static ssize_t (*real)(int, const void *, size_t);
-    if (!real)
-        real = (ssize_t (*)(int, const void *, size_t))dlsym(RTLD_NEXT, "write");
-    ssize_t count = allowed(file, length, "write", "BAD_WRITES");
+    ssize_t count = allowed(file, at, length, "write", "BAD_WRITES");
     if (count > 0 && *image_of(file))
-        note(file, count);
-    return count < 0 ? -1 : real(file, from, count);
+        note(file, at, count);
+    return count < 0 ? -1 : real_pwrite()(file, from, count, at);
 }
 
 int fsync(int file)
@@ -221,7 +234,7 @@ int fsync(int file)
     static int (*real)(int);
     if (!real)
         real = (int (*)(int))dlsym(RTLD_NEXT, "fsync");
-    if (allowed(file, 0, "sync", NULL) < 0)
+    if (allowed(file, 0, 0, "sync", NULL) < 0)
         return -1;
     forget(file);
     return real(file);

@@ -55,7 +55,7 @@ fn by_logs<B: Bay + Drop>(
 }
 
 /// How far the records of each disk reach.
-pub fn ends_of<R: Files>(disks: &Disks<R>) -> Ends {
+pub fn ends_of<R: Files<File = File>>(disks: &Disks<R>) -> Ends {
     disks.inner().inner().inner().ends()
 }
 

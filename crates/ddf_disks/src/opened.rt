@@ -36,7 +36,10 @@ pub(crate) fn changes_group(command: &Command) -> bool {
 }
 
 /// Whether a command may go on with the disks that could be opened.
-fn check_opened<R: Files>(files: &FileBay<Heard<R>>, command: &Command) -> Result<(), Failure> {
+fn check_opened<R: Files<File = File>>(
+    files: &FileBay<Heard<R>>,
+    command: &Command,
+) -> Result<(), Failure> {
     if changes_group(command) {
         if let Some(why) = first_unopened(files) {
             return Err(Failure::Unopened(reason_of(&why)));
@@ -51,7 +54,7 @@ fn check_opened<R: Files>(files: &FileBay<Heard<R>>, command: &Command) -> Resul
 /// end fails each call, as one whose anchor can't be read does.
 // argued: that `label` sees each disk to its end, and no other command does, and that a disk fails where the look at its end did, for all bays are made of
 // what this function answers.
-fn reached_by<R: Files + AllocGlobal>(
+fn reached_by<R: Files<File = File> + AllocGlobal>(
     rt: &R,
     files: FileBay<Heard<R>>,
     command: &Command,

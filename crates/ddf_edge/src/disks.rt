@@ -37,7 +37,7 @@ where
 }
 
 /// Why the first disk that could not be opened couldn't, where there is one.
-pub fn first_unopened<R: Files>(bay: &FileBay<Heard<R>>) -> Option<io::Error> {
+pub fn first_unopened<R: Files<File = File>>(bay: &FileBay<Heard<R>>) -> Option<io::Error> {
     for slot in 0..bay.slots() {
         if let Some(why) = bay.fault(slot) {
             return Some(why);
@@ -47,7 +47,7 @@ pub fn first_unopened<R: Files>(bay: &FileBay<Heard<R>>) -> Option<io::Error> {
 }
 
 /// Whether another program holds a lock on a disk.
-pub fn any_locked<R: Files>(bay: &FileBay<Heard<R>>) -> bool {
+pub fn any_locked<R: Files<File = File>>(bay: &FileBay<Heard<R>>) -> bool {
     (0..bay.slots()).any(|slot| match bay.fault(slot) {
         Some(why) => is_locked(&why),
         None => false,
@@ -55,7 +55,11 @@ pub fn any_locked<R: Files>(bay: &FileBay<Heard<R>>) -> bool {
 }
 
 /// Names on standard error each disk of which a call failed, and what the system said of the last one.
-pub fn name_failed<R: Files + Eprint>(rt: &R, bay: &FileBay<Heard<R>>, paths: &[String]) {
+pub fn name_failed<R: Files<File = File> + Eprint>(
+    rt: &R,
+    bay: &FileBay<Heard<R>>,
+    paths: &[String],
+) {
     for (slot, path) in paths.iter().enumerate() {
         if slot < bay.slots() {
             if let Some(file) = bay.file(slot) {
@@ -89,7 +93,7 @@ fn way_out_of(kind: ErrorKind) -> &'static str {
 }
 
 /// Names on standard error each path that could not be opened, and why.
-fn name_unopened<R: Files + Eprint>(rt: &R, bay: &FileBay<Heard<R>>, paths: &[String])
+fn name_unopened<R: Files<File = File> + Eprint>(rt: &R, bay: &FileBay<Heard<R>>, paths: &[String])
     requires { length paths.now ≡ length (⟦<FileBay<Heard<R>> as Bay>⟧.disks bay.now).sizes }
 {
     for (slot, path) in paths.iter().enumerate() {

@@ -1,21 +1,25 @@
-//! A file that keeps why a call on it failed.
+//! A file that keeps its place, and why a call on it failed.
 use std::cell::Cell;
 use std::fs::{Metadata, OpenFile};
 use std::io;
 use std::io::{ErrorKind, Read, Seek, SeekFrom, Write};
+use std::os::unix::fs::FileExt;
 
-/// A file, and why the last call on it failed of those that did.
+/// A file, the place of the next call on it, in bytes, and why the last call failed of those that did. The system is told the place with each read and
+/// write, so that a seek to one is no call of it.
 #[derive(Drop)]
 pub struct HeardFile<F> {
     file: F,
+    at: u64,
     why: Cell<Option<io::Error>>,
 }
 
 impl<F> HeardFile<F> {
-    /// Keeps what is said of this file from now on.
+    /// Keeps what is said of this file from now on, which is read and written from its first byte on.
     pub fn new(file: F) -> HeardFile<F> {
         HeardFile {
             file,
+            at: 0,
             why: Cell::new(None),
         }
     }
@@ -39,18 +43,28 @@ fn keep<T>(why: &Cell<Option<io::Error>>, outcome: &io::Result<T>) {
     }
 }
 
-impl<F: Read> Read for HeardFile<F> {
+/// The place behind the bytes that a call moved.
+fn behind(at: u64, outcome: &io::Result<usize>) -> u64 {
+    match outcome {
+        Ok(count) => at.saturating_add(*count as u64),
+        Err(_) => at,
+    }
+}
+
+impl<F: FileExt> Read for HeardFile<F> {
     fn read(&mut self, buf: &mut [u8]) -> io::Result<usize> {
-        let outcome = self.file.read(buf);
+        let outcome = self.file.read_at(buf, self.at);
         keep(&self.why, &outcome);
+        self.at = behind(self.at, &outcome);
         outcome
     }
 }
 
-impl<F: Write> Write for HeardFile<F> {
+impl<F: FileExt + Write> Write for HeardFile<F> {
     fn write(&mut self, buf: &[u8]) -> io::Result<usize> {
-        let outcome = self.file.write(buf);
+        let outcome = self.file.write_at(buf, self.at);
         keep(&self.why, &outcome);
+        self.at = behind(self.at, &outcome);
         outcome
     }
 
@@ -63,9 +77,24 @@ impl<F: Write> Write for HeardFile<F> {
 
 impl<F: Seek> Seek for HeardFile<F> {
     fn seek(&mut self, to: SeekFrom) -> io::Result<u64> {
-        let outcome = self.file.seek(to);
+        let outcome = match to {
+            SeekFrom::Start(at) => Ok(at),
+            SeekFrom::End(_) => self.file.seek(to),
+            SeekFrom::Current(by) => moved(self.at, by),
+        };
         keep(&self.why, &outcome);
+        if let Ok(at) = outcome {
+            self.at = at;
+        }
         outcome
+    }
+}
+
+/// A place so many bytes further on.
+fn moved(at: u64, by: i64) -> io::Result<u64> {
+    match at.checked_add_signed(by) {
+        Some(moved) => Ok(moved),
+        None => Err(io::Error::from(ErrorKind::InvalidInput)),
     }
 }
 

@@ -1,19 +1,19 @@
 //! The files of a system, each as one that keeps why a call on it failed.
 use crate::file::HeardFile;
 use std::alloc::Allocator;
-use std::fs::{Files, Metadata, OpenOptions};
+use std::fs::{File, Files, Metadata, OpenOptions};
 use std::io;
 
 /// The files of a system, which keep why a call on them failed.
 #[derive(Drop)]
 pub struct Heard<R>(pub R);
 
-impl<R: Files> Files for Heard<R> {
-    type File = HeardFile<R::File>;
+impl<R: Files<File = File>> Files for Heard<R> {
+    type File = HeardFile<File>;
 
     type Dir = R::Dir;
 
-    fn open_file(&self, how: &OpenOptions, path: &str) -> io::Result<HeardFile<R::File>> {
+    fn open_file(&self, how: &OpenOptions, path: &str) -> io::Result<HeardFile<File>> {
         match self.0.open_file(how, path) {
             Ok(file) => Ok(HeardFile::new(file)),
             Err(why) => Err(why),
