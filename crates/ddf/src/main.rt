@@ -177,6 +177,7 @@ where
 }
 
 /// Looks at the disks, and puts what they show in the place of the words that name it in short.
+#[inline(never)]
 fn complete_words<R>(rt: &R, words: &mut Vec<String>) -> Result<(), Failure>
 where
     R: Files<File = File> + Clock + Eprint + AllocGlobal + Clone + Drop,

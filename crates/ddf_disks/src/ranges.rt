@@ -1,6 +1,7 @@
 //! What standard error says of bad sectors.
 use crate::opened::changes_group;
 use ddf_bay::Bay;
+use ddf_boxed::Boxed;
 use ddf_edge::OneLine;
 use ddf_hidden_logs::Honoured;
 use ddf_words::Command;
@@ -8,7 +9,7 @@ use ddf_words::Command;
 /// Names the disks whose bad sectors are read and written at spare places, before a command that shows the group or may write to it.
 pub fn name_ranges<R: Eprint, B: Bay + Drop>(
     rt: &R,
-    disks: &Honoured<B>,
+    disks: &Boxed<Honoured<B>>,
     paths: &[String],
     command: &Command,
 ) {
@@ -16,7 +17,7 @@ pub fn name_ranges<R: Eprint, B: Bay + Drop>(
         return;
     }
     for (slot, path) in paths.iter().enumerate() {
-        let ranges = disks.ranges(slot);
+        let ranges = disks.inner().ranges(slot);
         if ranges > 0 {
             tell_ranges(rt, slot, path, ranges);
         }

@@ -1,5 +1,6 @@
 //! Which slots of a bay are Linux's, through the bay above the one that turns their records.
 use ddf_bay::Bay;
+use ddf_boxed::Boxed;
 use ddf_hidden_logs::Honoured;
 use ddf_linux::Turned;
 
@@ -12,6 +13,12 @@ pub trait LinuxBay: Bay {
 impl<B: Bay + Drop> LinuxBay for Turned<B> {
     fn turns(&self, slot: usize) -> bool {
         slot < self.slots() && Turned::turns(self, slot)
+    }
+}
+
+impl<B: LinuxBay + Drop> LinuxBay for Boxed<B> {
+    fn turns(&self, slot: usize) -> bool {
+        self.inner().turns(slot)
     }
 }
 
