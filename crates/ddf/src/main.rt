@@ -6,8 +6,8 @@ ghost use Rattle.std.specs.Prelude.{◌≡◌, ◌≤◌, length, IfOk};
 ghost use Rattle.ddf_words.specs.Words.{words_of, slot_count};
 
 use ddf_arrays_left::{
-    Fault, name_filling, name_half_moved, name_marked, name_stand_in, name_standing, tell_back,
-    tell_cut, tell_faulted,
+    Fault, name_half_moved, name_interim, name_marked, name_stand_in, tell_back, tell_cut,
+    tell_faulted,
 };
 use ddf_asking::{Person, Risks, consents, name_lines, name_risks, tell_end};
 use ddf_batch::serve;
@@ -307,14 +307,15 @@ where
 {
     let mut bay = bay;
     let paths = slot_paths(words);
-    let holder = name_stand_in(rt, &mut bay, paths, asked);
-    let (risks, task) = ready(rt, &mut bay, ends, words, asked, kind, person)?;
+    let (holder, risks, task) = ready(rt, &mut bay, ends, words, asked, kind, person)?;
     let (mut bay, ending) = serve_disks(rt, words, bay, task, stamp, holder);
     tell_served(rt, &mut bay, paths, asked, kind, person, ending, risks)?;
     Ok((bay, ending))
 }
 
-/// Says what has to be known before the command, asks, and takes the lines of a batch.
+/// Says what has to be known before the command, asks, and takes the lines of a batch. Answers too the slot of the spare that holds the position which a
+/// `copyback` takes. What this puts on the stack is gone before the command puts on its own.
+#[inline(never)]
 fn ready<R, B>(
     rt: &R,
     bay: &mut B,
@@ -323,19 +324,20 @@ fn ready<R, B>(
     asked: &Asked,
     kind: Kind,
     person: Person,
-) -> Result<(Risks, Task<R::Reader>), Failure>
+) -> Result<(Option<usize>, Risks, Task<R::Reader>), Failure>
 where
     R: Files<File = File> + Input + Eprint + AllocGlobal + Clone + Drop,
     B: LinuxBay,
     ensures { IfOk result (λ x. length (B.disks bay.new).sizes ≡ slot_count (words_of words.now)) }
 {
     let paths = slot_paths(words);
+    let holder = name_stand_in(rt, bay, paths, asked);
     let risks = name_before(rt, bay, ends, paths, asked, kind, person)?;
     let task = task_of(rt, bay, asked, kind, person)?;
 
     // A look keeps the slots, and no clause of it says so.
     if bay.slots() == paths.len() {
-        Ok((risks, task))
+        Ok((holder, risks, task))
     } else {
         Err(Failure::Declined)
     }
@@ -407,6 +409,7 @@ where
 }
 
 /// Says on standard error what a command came to, and what it left.
+#[inline(never)]
 fn tell_served<R, B>(
     rt: &R,
     bay: &mut B,
@@ -452,8 +455,7 @@ where
     }
     if let Command::Show | Command::Read { .. } | Command::Scrub { .. } = asked.command {
         name_away(rt, bay, paths, asked.group)?;
-    }
-    if asked.command.traits().takes_group {
+    } else if asked.command.traits().takes_group {
         name_strays(rt, bay, paths, asked.group)?;
     }
     let risks = name_risks(rt, bay, paths, asked)?;
@@ -543,8 +545,7 @@ where
         name_unfinished(rt, bay, asked.group);
     }
     if let Command::Assemble | Command::Show = asked.command {
-        name_filling(rt, bay, paths, asked.group);
-        name_standing(rt, bay, paths, asked.group);
+        name_interim(rt, bay, paths, asked.group);
     }
     if let Command::Assemble | Command::Show | Command::Rebuild { .. } = asked.command {
         name_unrebuilt(rt, bay, asked.group);

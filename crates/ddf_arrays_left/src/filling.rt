@@ -1,25 +1,17 @@
 //! Disks that a rebuild has begun to fill.
 use crate::positions::is_filled;
-use crate::shown::group_shown;
 use ddf_assembly::Group;
-use ddf_bay::Bay;
-use ddf_bytes::{Guid, Hex32};
+use ddf_bytes::Hex32;
 use ddf_config::{Array, ElementPlan, Position, element_shape, slot_of};
 use ddf_edge::OneLine;
 use ddf_name::NameText;
 
 /// Names on standard error each disk that a rebuild has begun to fill and that doesn't count yet, how far it is, and how it goes on.
-pub fn name_filling<R, B: Bay>(rt: &R, bay: &mut B, paths: &[String], named: Option<Guid>)
-where
-    R: Eprint + AllocGlobal,
-{
-    let Ok(Some(group)) = group_shown(rt, bay, named) else {
-        return;
-    };
+pub(crate) fn name_filling<R: Eprint>(rt: &R, paths: &[String], group: &Group) {
     for (_, array) in &group.config().arrays {
         let elements = array.elements.items();
         for element in elements.iter().flatten() {
-            name_in_element(rt, paths, &group, array, element);
+            name_in_element(rt, paths, group, array, element);
         }
     }
 }

@@ -3,7 +3,6 @@ use crate::arrays_after::lies_on;
 use crate::shown::group_shown;
 use ddf_assembly::Group;
 use ddf_bay::Bay;
-use ddf_bytes::Guid;
 use ddf_config::{Array, ElementPlan, slot_of};
 use ddf_edge::OneLine;
 use ddf_name::NameText;
@@ -67,17 +66,11 @@ fn is_free_for(group: &Group, array: &Array, slot: usize) -> bool {
 }
 
 /// Names on standard error each revertible spare that stands in for a lost disk, and how it gives its place back.
-pub fn name_standing<R, B: Bay>(rt: &R, bay: &mut B, paths: &[String], named: Option<Guid>)
-where
-    R: Eprint + AllocGlobal,
-{
-    let Ok(Some(group)) = group_shown(rt, bay, named) else {
-        return;
-    };
+pub(crate) fn name_standing<R: Eprint>(rt: &R, paths: &[String], group: &Group) {
     for (_, array) in &group.config().arrays {
-        let first = stand_in_of(&group, array);
+        let first = stand_in_of(group, array);
         for element in array.elements.items().iter().flatten() {
-            if let Some(slot) = stand_in_in(&group, element) {
+            if let Some(slot) = stand_in_in(group, element) {
                 tell_standing(rt, paths, array, slot, first == Some(slot));
             }
         }

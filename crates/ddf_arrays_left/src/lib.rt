@@ -8,6 +8,7 @@ mod arrays_after;
 mod faulted;
 mod filling;
 mod going_back;
+mod interim;
 mod positions;
 mod shown;
 mod uncopied;
@@ -15,8 +16,8 @@ mod unfilled;
 
 pub use arrays_after::{failed_array, lies_on, name_arrays_after};
 pub use faulted::{name_marked, tell_cut, tell_faulted};
-pub use filling::name_filling;
-pub use going_back::{name_stand_in, name_standing, tell_back};
+pub use going_back::{name_stand_in, tell_back};
+pub use interim::name_interim;
 pub use positions::{keeps_parity, lacks_one, slot_filled};
 pub use shown::group_shown;
 pub use uncopied::name_half_moved;

@@ -1,6 +1,7 @@
 //! Members that a command over a group would lose, and disks that show none. A disk that is lost for want of a word is lost for good.
 //! docs/STOPS.md#a-disk-wasnt-named
 use crate::silent::{Silence, silence_alone, silence_of};
+use crate::strays::name_strays_of;
 use ddf_arrays_left::{failed_array, group_shown, name_arrays_after};
 use ddf_assembly::{Assembly, Group, assemble};
 use ddf_bay::Bay;
@@ -52,7 +53,7 @@ where
 }
 
 /// Names on standard error each slot that shows no group, where a command that only looks misses a member, and each that is the
-/// disk of a member that the group lists as missing.
+/// disk of a member that the group lists as missing; then what `name_strays` does. The group is assembled once for both.
 pub fn name_away<R, B: Bay>(
     rt: &R,
     bay: &mut B,
@@ -63,7 +64,10 @@ where
     R: Eprint + AllocGlobal,
 {
     match assemble(rt.alloc(), bay, named) {
-        Ok(group) => name_away_from(rt, bay, paths, &group),
+        Ok(group) => {
+            name_away_from(rt, bay, paths, &group)?;
+            name_strays_of(rt, bay, paths, &group)
+        }
         Err(Assembly::Memory) => Err(NoMemory),
         Err(Assembly::NoGroup) => name_all_silent(rt, bay, paths),
         Err(_) => Ok(()),

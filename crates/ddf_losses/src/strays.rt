@@ -21,16 +21,13 @@ where
     R: Eprint + AllocGlobal,
 {
     match group_shown(rt, bay, named)? {
-        Some(group) => {
-            name_adaptec(rt, &group);
-            name_strays_of(rt, bay, paths, &group)
-        }
+        Some(group) => name_strays_of(rt, bay, paths, &group),
         None => Ok(()),
     }
 }
 
-/// Names each disk of this group that recovery must not write over, and why.
-fn name_strays_of<R, B: Bay>(
+/// Names each disk of this group that recovery must not write over, and why, and each array that another tool reads otherwise.
+pub(crate) fn name_strays_of<R, B: Bay>(
     rt: &R,
     bay: &mut B,
     paths: &[String],
@@ -39,6 +36,7 @@ fn name_strays_of<R, B: Bay>(
 where
     R: Eprint + AllocGlobal,
 {
+    name_adaptec(rt, group);
     let trusted = trusted_seats(rt.alloc(), group)?;
     for seat in group.seats() {
         if !has_slot(trusted.as_slice(), seat.slot) {
