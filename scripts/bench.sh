@@ -22,6 +22,9 @@
 # - One `read` of 512 MiB on a disk whose bad block log has 1,000 entries, beside the same on one without any: both disks are laid out without `ddf` (handmade.py).
 # - `rebuild` of the second disk of such arrays on a spare, with the loss, the notes of its progress and their syncs, beside cat of what it reads, to nowhere, and then dd
 #   of what it writes, with one sync.
+# - On a medium, by the clock and with the syncs that it costs (medium_speed.py): `examine` of Linux's disks beside mdadm, a change of 15 disks beside as many syncs
+#   by dd, `resync`, `write` and `read` of 64 MiB beside cat and dd, and `rebuild` beside both. Before each look and read the system is told to forget the files.
+#   MEDIUM is a folder there (that of temporary files); in memory these rows aren't measured. They need room for 700 MB.
 # - The exclusive-or of sectors in cache beside a copy of as many, in one small program (xor_speed.rt.txt: only a crate has files
 #   named .rt), which `rt` proves and builds first. That takes a minute or more.
 #
@@ -79,3 +82,9 @@ elif ! (build_xor "$work/xor") >"$work/xor.log" 2>&1; then
     echo "bench: the exclusive-or isn't measured" >&2
 fi
 python3 -B "$top/scripts/bench.py" "$top/crates/ddf/out/ddf" "$work" "${ROUNDS:-40}"
+medium=${MEDIUM:-$work}
+if [ "$(stat -f -c %T "$medium")" = tmpfs ]; then
+    echo "bench: $medium is in memory, the rows of a medium aren't measured" >&2
+else
+    python3 -B "$top/scripts/medium_speed.py" "$top/crates/ddf/out/ddf" "$medium" "$work/linux" "$((${ROUNDS:-40} / 4 + 1))"
+fi

@@ -41,6 +41,16 @@ files_of() {
     done
 }
 
+# The code that clang has begun to read: of what it is given only that of the program isn't text.
+code_in() {
+    find "$1" -name 'module*.o*' -printf '%h/module.bc\n' 2>/dev/null | while read -r code; do
+        if [ "$(head -c 2 "$code" 2>/dev/null)" = BC ]; then
+            echo "$code"
+            break
+        fi
+    done
+}
+
 # Compiles the program of a crate without its proofs, unless that was done and no source is newer.
 build() {
     program=$keep/$1
@@ -50,7 +60,7 @@ build() {
     touch "$room/begun"
     (cd "$top/crates/$1" && TMPDIR=$room exec rt try) >/dev/null 2>"$room/log" </dev/null &
     trial=$!
-    until code=$(find "$room" -name 'module*.o*' -printf '%h/module.bc' -quit 2>/dev/null) && [ -n "$code" ] && cp "$code" "$room/code.bc" 2>/dev/null; do
+    until code=$(code_in "$room") && [ -n "$code" ] && cp "$code" "$room/code.bc" 2>/dev/null; do
         kill -0 "$trial" 2>/dev/null || fail "$1 isn't built: the trial run refuses it, or keeps its code elsewhere: $(tail -n 20 "$room/log")"
         sleep 0.2
     done
