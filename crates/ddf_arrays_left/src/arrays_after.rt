@@ -1,4 +1,4 @@
-//! What becomes of arrays.
+//! What a change makes of the arrays: which are altered, and which lie on its disks. docs/COMMANDS.md#what-is-told-on-standard-error
 use ddf_assembly::Group;
 use ddf_bytes::NoMemory;
 use ddf_config::{Array, Config, is_within};

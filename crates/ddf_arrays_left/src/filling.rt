@@ -1,4 +1,4 @@
-//! Disks that a rebuild has begun to fill.
+//! Disks that a rebuild has begun to fill and that don't count yet: how far, and how it goes on. docs/NEW-DISK.md#cut-short
 use crate::positions::is_filled;
 use ddf_assembly::Group;
 use ddf_bytes::Hex32;

@@ -1,4 +1,4 @@
-//! What a command did, as far as its output doesn't tell it.
+//! What a command did, as far as its output doesn't tell it. docs/COMMANDS.md#what-is-told-on-standard-error
 use ddf_bytes::NoMemory;
 use ddf_edge::{DISK_FAULT, OneLine};
 use ddf_name::NameText;

@@ -1,4 +1,4 @@
-//! The lines of a batch that put an end to something.
+//! The lines of a batch that put an end to something: they are asked about before the first line is done. docs/COMMANDS.md#batch
 use ddf_edge::OneLine;
 use std::str;
 

@@ -1,4 +1,5 @@
-//! What a command is about to lose or to write over.
+//! What a command is about to lose or to write over. What isn't named here isn't asked about, and is gone.
+//! docs/COMMANDS.md#what-is-told-on-standard-error
 use ddf_bytes::NoMemory;
 use ddf_contents::name_filled;
 use ddf_for_linux::{LinuxBay, name_misread, name_unfinished};

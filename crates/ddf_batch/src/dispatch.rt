@@ -1,4 +1,4 @@
-//! The command of a line: the program's own, with no input.
+//! The command of a line: the program's own, with no input. docs/COMMANDS.md#batch
 ghost use Rattle.std.specs.Prelude.{◌≡◌, true};
 ghost use Rattle.ddf_answer.specs.Call.{answer_of, work_of};
 ghost use Rattle.ddf_answer.specs.Ends.{Ends};

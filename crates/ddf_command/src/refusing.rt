@@ -1,4 +1,4 @@
-//! Words that are no command's.
+//! Words that are no command's: status 2, and the place of the first that is wrong. docs/REFUSALS.md#10-word-p
 ghost use Rattle.std.specs.Prelude.{◌≡◌};
 ghost use Rattle.ddf_bytes.specs.Streams.{SinkRose};
 ghost use Rattle.ddf_text.specs.Refusal.{refusal_line};

@@ -38,8 +38,8 @@ pub fn a_label_of_all_disks_leaves_each_standing()
         × (moment.bay ≡ new) × (moment.promises ≡ none_promised) }
 {}
 
-/// What a command finds that takes the group is what its history admits, where a disk stands, of whichever others are unplugged: nothing is asked but that it left out the slots of which every
-/// call fails, as each contract says unless memory ran out, and that the bay still tells behind it.
+/// What a command finds that takes the group is what its history admits, where a disk stands, of whichever others are unplugged: nothing is asked but that it left
+/// out the slots of which every call fails, as each contract says unless memory ran out, and that the bay still tells behind it.
 pub fn a_command_is_admitted_where_a_disk_stands()
     ensures { (group : List ℕ) (kept : ℕ) (disk : Disk) (old : Moment group MemoryBay) (exit : MemoryBay) → Stands group kept disk old → GoesWell old.bay exit → (disks_of exit).tells_left
         → (left : List Bool) → length left ≡ length (disks_of old.bay).sizes
@@ -47,8 +47,8 @@ pub fn a_command_is_admitted_where_a_disk_stands()
         → (newest : List (Option Newest)) → newest ≡ newest_from (disks_of old.bay) 0 left → (found : GroupValue) → group_of newest (Some group) ≡ Ok found → FindsOn group old left newest }
 {}
 
-/// However a history goes on from a moment at which a disk stands, by calls of each kind, their ends and stops within them, stops between them, slots that are unplugged and disks that come back,
-/// and for however many turns, it stands at each moment, all is kept, and what was acknowledged stays.
+/// However a history goes on from a moment at which a disk stands, by calls of each kind, their ends and stops within them, stops between them, slots that are
+/// unplugged and disks that come back, and for however many turns, it stands at each moment, all is kept, and what was acknowledged stays.
 pub fn a_disk_stands_however_its_history_goes_on()
     ensures { (group : List ℕ) (kept : ℕ) (disk : Disk) (start : Moment group MemoryBay) → Stands group kept disk start → (turns : ℕ) → StandsOn group kept disk turns start }
 {}
@@ -72,8 +72,8 @@ pub fn a_read_prints_what_is_promised_where_a_disk_stands()
         → AreOut (disks_of old.bay) read.has.left → (disks_of exit).tells_left → (allowed : Allowed) → old.promises guid ≡ Some allowed → MayBe allowed read.start (blocks_printed read.outcome) }
 {}
 
-/// A history admits an import, as its laws ask, where the group that joins stands in a history of its own over the same disks, of which the look found it whole, where both histories know the same
-/// disk in each slot, no disk has come back, and no disk that shows the first group has fallen out of it.
+/// A history admits an import, as its laws ask, where the group that joins stands in a history of its own over the same disks, of which the look found it whole,
+/// where both histories know the same disk in each slot, no disk has come back, and no disk that shows the first group has fallen out of it.
 pub fn an_import_is_admitted_where_both_groups_stand()
     ensures { (group former : List ℕ) (old : Moment group MemoryBay) (theirs : Moment former MemoryBay) → KeepsAll disks_of theirs → theirs.bay ≡ old.bay
         → ((slot : ℕ) → theirs.past.disk slot ≡ old.past.disk slot) → ((slot : ℕ) → old.past.returned slot ≡ false)

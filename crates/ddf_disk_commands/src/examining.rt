@@ -1,4 +1,4 @@
-//! `examine`: what each slot shows, slot by slot.
+//! `examine`: what each slot shows, slot by slot. docs/COMMANDS.md#examine
 ghost use Rattle.std.specs.Prelude.{◌≡◌, ◌<◌, length, OnOk, IsErrOf};
 ghost use Rattle.ddf_bytes.specs.Streams.{SinkRose, SinkSame};
 ghost use Rattle.ddf_bay.specs.ReadsOnly.{ReadsOnly};

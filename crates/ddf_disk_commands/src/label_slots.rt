@@ -1,4 +1,6 @@
-//! The slots that `label` takes, and what it is refused for.
+//! The slots that `label` takes, and what it is refused for: every anchor is read before the first write, since a disk with one may be needed by a
+//! group.
+//! docs/COMMANDS.md#label
 ghost use Rattle.std.specs.Prelude.{◌≡◌, ◌<◌, ◌≤◌, nat_le, Some, None, All, IfOk, IfErr, OnOk, length};
 ghost use Rattle.std.specs.List.{find};
 ghost use Rattle.ddf_bay.specs.ReadsOnly.{ReadsOnly, SlotRose};

@@ -1,4 +1,4 @@
-//! `label`: the first copies of a new group's disks.
+//! `label`: the first copies of a new group's disks. docs/UPDATES.md#the-first-copies-of-a-disk
 ghost use Rattle.std.specs.Prelude.{◌≡◌, ◌*◌, ◌<◌, ℕ, Some, All, IfOk, OnOk, length};
 ghost use Rattle.ddf_bay.specs.Moments.{GoesOn, StopsLeave};
 ghost use Rattle.ddf_bay.specs.ReadsOnly.{ReadsOnly};

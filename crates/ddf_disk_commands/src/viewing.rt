@@ -1,4 +1,4 @@
-//! What a slot shows of itself: its anchor, the two headers that the anchor names, and its copies.
+//! What a slot shows of itself: its anchor, the two headers that the anchor names, and its copies. docs/FORMAT.md#whole-copies
 ghost use Rattle.std.specs.Prelude.{◌≡◌, ◌<◌, IfOk, length, slice_index};
 ghost use Rattle.ddf_header.specs.Header.{decoded};
 ghost use Rattle.ddf_bay.specs.State.{on_slot};

@@ -1,4 +1,4 @@
-//! What standard error says of a bad block log that isn't honoured.
+//! What standard error says of a bad block log that isn't honoured. docs/REFUSALS.md#31-bad-blocks-on-slot-s
 use ddf_badblocks::{EntryFault, Unfit};
 use ddf_bay::Bay;
 use ddf_edge::OneLine;

@@ -1,4 +1,4 @@
-//! What standard error says of bad sectors.
+//! What standard error says of bad sectors. docs/COMMANDS.md#what-is-told-on-standard-error
 use crate::opened::changes_group;
 use ddf_bay::Bay;
 use ddf_boxed::Boxed;

@@ -1,4 +1,4 @@
-//! What the program says of each command.
+//! What `--help` says of each command; the whole is in docs/COMMANDS.md, and `scripts/man.py --check` compares the two.
 
 /// What `--help` after a command prints: its arguments in the first line, what it does, an example, its statuses.
 pub fn part_of(command: &str) -> Option<&'static str> {

@@ -1,4 +1,4 @@
-//! The output, counted.
+//! The output, counted: what was printed is told from what the system took. docs/SCRIPTS.md#after-6-and-7
 ghost use Rattle.std.specs.Prelude.{◌≡◌};
 
 use ddf_bytes::{Failed, Sink};

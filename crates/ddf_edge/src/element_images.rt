@@ -1,4 +1,4 @@
-//! Elements of a new array whose disks are named by their images.
+//! Elements of a new array whose disks are named by their images. docs/COMMANDS.md#arguments
 use std::alloc::{AllocError, Global};
 
 /// The element with the number of its slot for each image, where some part of its list isn't a number and each such part is an

@@ -1,4 +1,4 @@
-//! Why the program ends before its command is done.
+//! Why the program ends before its command is done. docs/SCRIPTS.md#statuses
 use crate::reasons::Reason;
 use ddf_bytes::NoMemory;
 use std::{fmt, io};

@@ -1,4 +1,4 @@
-//! What the program says of itself.
+//! What the program says of itself. docs/COMMANDS.md#arguments
 use crate::command_help::part_of;
 
 /// The first line of what `--help` prints.

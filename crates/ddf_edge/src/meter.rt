@@ -1,4 +1,4 @@
-//! How far a long command has come, for somebody at a terminal, and what its last call was.
+//! How far a long command has come, for somebody at a terminal, and what its last call was. docs/COMMANDS.md#what-is-told-on-standard-error
 use crate::sizes::Size;
 use ddf_progress::Progress;
 use std::rt::Clock;

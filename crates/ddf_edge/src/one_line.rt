@@ -1,4 +1,4 @@
-//! Texts from outside in a line of standard error.
+//! Texts from outside in a line of standard error: a control character in one could pass for a line of the program's own.
 use std::fmt;
 use std::fmt::Write;
 

@@ -1,4 +1,4 @@
-//! Streams whose calls are made again where the system interrupted them.
+//! Streams whose calls are made again where the system interrupted them: a signal is no failure. docs/FAULTS.md#a-call-that-a-signal-interrupts
 use std::io;
 use std::io::{ErrorKind, Read, Write};
 

@@ -1,4 +1,4 @@
-//! Slots that the words name by their images.
+//! Slots that the words name by their images. docs/COMMANDS.md#arguments
 use crate::element_images::{is_number, numbered_element, slot_named};
 use ddf_words::image_paths;
 use std::alloc::AllocError;

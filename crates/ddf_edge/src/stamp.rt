@@ -1,4 +1,4 @@
-//! The moment and the chance for new names.
+//! The moment and the chance for new names: two groups of one name would be taken for one. docs/GROUPS.md#which-group-the-disks-are
 use ddf_bytes::Stamp;
 use std::fs::File;
 use std::io;

@@ -1,4 +1,4 @@
-//! What is wrong with words that are no command's.
+//! What is wrong with words that are no command's, and what was meant, perhaps. docs/REFUSALS.md#10-word-p
 use crate::command_help::synopsis_of;
 use crate::one_line::OneLine;
 use ddf_words::{MOST_IMAGES, image_paths};

@@ -73,8 +73,8 @@ module _ (group guid : List ℕ) (disks : Disks) (sm tm : Bool) (fu hu : SpareUs
 -- ---- members
 
 -- a disk that is no revertible spare stands in for no other
-pub takes_global : (table : List (ℕ × Member)) (reference : ℕ) (found : Member) → lookup (nat_eq reference) table ≡ Some found → is_revertible found.spare ≡ false → is_revertible_spare table reference ≡ false
-takes_global table reference found there other =
+pub takes_global : (listed : List (ℕ × Member)) (reference : ℕ) (found : Member) → lookup (nat_eq reference) listed ≡ Some found → is_revertible found.spare ≡ false → is_revertible_spare listed reference ≡ false
+takes_global listed reference found there other =
     ap (λ (it : Option Member). elim it [ None ↦ false | Some member ↦ is_revertible member.spare ]) there ∙ other
 
 -- other members, and the array as it was

@@ -1,4 +1,4 @@
-//! Which slots of a bay are Linux's, through the bay above the one that turns their records.
+//! Which slots of a bay are Linux's, through the bay above the one that turns their records. docs/LINUX-SEALS.md#a-bay-over-a-bay
 use ddf_bay::Bay;
 use ddf_boxed::Boxed;
 use ddf_hidden_logs::Honoured;

@@ -6,16 +6,14 @@ use Rattle.ddf_config.specs.declared.seat.Seat.{Seat}
 use Rattle.ddf_config.specs.Configuration.{Configuration}
 use Rattle.ddf_array.specs.Viewing.{view_of}
 use Rattle.ddf_array.specs.Volume.{Volume}
-use Rattle.ddf_read.specs.Reading.{Failed}
 use Rattle.ddf_group.specs.declared.answer.Assembly.{Assembly}
 use Rattle.ddf_seats.specs.Group.{GroupValue}
 use Rattle.ddf_assembly.specs.Group.{UpToMemory}
 use Rattle.ddf_recovery.specs.Recovery.{trusted_seats}
-use Rattle.ddf_request.specs.Named.{named_array}
 use Rattle.ddf_answer.specs.declared.failure.Failure.TheVariants.{Conflict, Disk, Memory, Refused, Split}
-use Rattle.ddf_answer.specs.Call.{Answer, Work, work_of}
+use Rattle.ddf_answer.specs.Call.{Answer, Work}
 use Rattle.ddf_answer.proofs.Rises.{rose_later}
-use Rattle.ddf_read_commands.specs.Read.{CallsOfArray, CallsOfBlocks, CallsOfReading, CallsUnread, CutShort, GrewByPieces, IsArrayRead, IsReadTold, IsReadable, NotRead, Outcome, Stopped, Whole, is_unread, most_looks, room_for}
+use Rattle.ddf_read_commands.specs.Read.{CallsOfArray, CallsOfBlocks, CallsOfReading, CallsUnread, CutShort, GrewByPieces, IsArrayRead, IsReadTold, IsReadable, NotRead, Outcome, Stopped, Whole, most_looks, room_for}
 
 -- ---- where none was made
 

@@ -1,5 +1,5 @@
 -- The position that goes back: in sync, on a disk that is here and stands in at its element.
-use Rattle.std.proofs.Common.{◌≡◌, ◌∙◌, ℕ, suc, ◌+◌, ◌==◌, Bool, true, false, not, ◌&&◌, cond, List, [], ◌∷◌, length, Option, Some, None, refl, sym, ap, subst, arith}
+use Rattle.std.proofs.Common.{◌≡◌, ◌∙◌, ℕ, suc, ◌+◌, ◌==◌, true, not, ◌&&◌, List, [], ◌∷◌, Option, Some, None, refl, sym, ap, arith}
 use Rattle.std.proofs.lemmas.Bool.{and_parts}
 use Rattle.std.specs.Prelude.{is_some, slice_get}
 use Rattle.std.specs.Map.{lookup}
@@ -13,7 +13,7 @@ use Rattle.ddf_config.specs.Seats.{floor_of}
 use Rattle.ddf_repair.specs.declared.first.Target.{Target}
 use Rattle.ddf_repair.specs.Choose.{back_from, back_in, can_go_back, chosen, part_back, target_at}
 use Rattle.ddf_rebuild_command.proofs.Positions.{IsHeld}
-use Rattle.ddf_rebuild_command.proofs.Targets.{Numbered, numbered}
+use Rattle.ddf_rebuild_command.proofs.Targets.{numbered}
 
 -- A position of an array can go back: it is in sync, and its disk is here.
 pub record IsBackAt (config : Configuration) (guid : List ℕ) (seats : List Seat) (target : Target) : Type 0 where

@@ -1,8 +1,7 @@
 -- A run of a copyback, by what the calls promise that it makes.
-use Rattle.std.proofs.Common.{◌≡◌, ℕ, ◌+◌, Bool, true, false, List, length, None, Ok, Err, Result, inl, inr, refl, sym, ap, subst, ◌∙◌, arith}
+use Rattle.std.proofs.Common.{◌≡◌, ℕ, ◌+◌, false, List, length, Err, Result, inl, inr, refl, sym, ap, subst, ◌∙◌, arith}
 use Rattle.std.specs.Prelude.{is_ok}
 use Rattle.ddf_bay.specs.State.{BayState}
-use Rattle.ddf_config.specs.Seats.{SeatsFit}
 use Rattle.ddf_config.specs.declared.seat.Seat.{Seat}
 use Rattle.ddf_cells.specs.Touching.{GoesBetween}
 use Rattle.ddf_cells.specs.Writing.{AsksFor}

@@ -33,7 +33,6 @@ use Rattle.ddf_answer.specs.declared.failure.Failure.{Failure}
 use Rattle.ddf_answer.specs.declared.failure.Failure.TheVariants.{Conflict, Disk, Memory, Refused, Split}
 use Rattle.ddf_answer.specs.Call.{Work, work_of}
 use Rattle.ddf_answer.proofs.Rises.{rose_later, rose_still}
-use Rattle.ddf_group_commands.specs.Change.{last_sequence}
 use Rattle.ddf_group_commands.specs.GroupRead.{IsFoundBy}
 use Rattle.ddf_group_commands.specs.Others.{LeavesOthers}
 use Rattle.ddf_group_commands.specs.Writing.{IsLeftWriting}
@@ -50,7 +49,7 @@ use Rattle.ddf_rebuild_command.specs.Filled.{made}
 use Rattle.ddf_rebuild_command.specs.Opened.{GoesOpening, IsOpened}
 use Rattle.ddf_rebuild_command.specs.Rounds.{IsSure}
 use Rattle.ddf_rebuild_command.specs.Standing.{AddsNothing, GoesNext, IsNextWritten, IsSlotFault}
-use Rattle.ddf_rebuild_command.proofs.Coming.{change_of, changes_both, goes_more, issue_goes, next_loses, next_over, over_counts, over_goes}
+use Rattle.ddf_rebuild_command.proofs.Coming.{change_of, changes_both, goes_more, issue_goes, next_over, over_counts, over_goes}
 use Rattle.ddf_rebuild_command.proofs.OneRound.{stops_both}
 use Rattle.ddf_rebuild_command.proofs.PositionRun.{seat_there, written_since}
 use Rattle.ddf_rebuild_command.proofs.RoundsMore.{left_holding}

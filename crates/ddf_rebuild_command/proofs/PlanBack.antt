@@ -1,5 +1,5 @@
 -- What is planned of a position that goes back, and the steps of its group that were readied for it.
-use Rattle.std.proofs.Common.{◌≡◌, ◌∙◌, ℕ, zero, suc, ◌+◌, ◌<◌, ◌≤◌, ◌==◌, Bool, true, false, not, ◌||◌, cond, List, [], ◌∷◌, ◌++◌, append-nil, length, map, Option, Some, None, Result, Ok, Err, nat_eq, inr, refl, sym, ap, subst, arith}
+use Rattle.std.proofs.Common.{◌≡◌, ◌∙◌, ℕ, zero, suc, ◌+◌, ◌<◌, ◌≤◌, ◌==◌, Bool, true, false, not, ◌||◌, cond, List, [], ◌∷◌, ◌++◌, append-nil, length, Option, Some, None, Result, Ok, Err, nat_eq, inr, refl, sym, ap, subst, arith}
 use Rattle.std.proofs.lemmas.Bool.{eq-eqb, eqb-true, false≢true, le-leb, ltb-false}
 use Rattle.std.specs.Prelude.{find, min, nat_le, nat_lt, option_and_then, option_map, slice_get, if◌then◌else◌}
 use Rattle.std.specs.List.{AllByRecursion, list_any}
@@ -13,7 +13,7 @@ use Rattle.ddf_config.specs.declared.seat.Seat.{Seat}
 use Rattle.ddf_config.specs.Configuration.{Configuration}
 use Rattle.ddf_config.specs.ElementValue.{ElementValue}
 use Rattle.ddf_config.specs.Extents.{array_extents, extent, extents, part_extents}
-use Rattle.ddf_config.specs.Members.{is_current, same_guid}
+use Rattle.ddf_config.specs.Members.{same_guid}
 use Rattle.ddf_config.specs.Refusals.{first_refusal, refuse_if}
 use Rattle.ddf_config.specs.States.{is_marked}
 use Rattle.ddf_plan.specs.declared.change.Change.{Change}
@@ -21,7 +21,7 @@ use Rattle.ddf_plan.specs.declared.change.Change.TheVariants.{Return}
 use Rattle.ddf_plan.specs.CreateRefusal.{is_spare_disk}
 use Rattle.ddf_plan.specs.Same.{is_step}
 use Rattle.ddf_repair.specs.declared.first.Target.{Target}
-use Rattle.ddf_repair.specs.Choose.{array_room, chosen, part_room, room_for}
+use Rattle.ddf_repair.specs.Choose.{array_room, part_room, room_for}
 use Rattle.ddf_config.specs.Room.{least_start_of}
 use Rattle.ddf_repair.specs.Spares.{extent_on, taken_on}
 use Rattle.std.proofs.lemmas.Option.{slice_get-map}

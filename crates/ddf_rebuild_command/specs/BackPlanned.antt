@@ -1,5 +1,5 @@
 -- What a copyback is to do to the array that a word names: which position goes where, and how far it has come.
-use Rattle.std.specs.Prelude.{◌≡◌, ℕ, List, [], ◌∷◌, ◌++◌, length, slice_get, true, false, Some, Ok}
+use Rattle.std.specs.Prelude.{◌≡◌, ℕ, List, [], ◌∷◌, ◌++◌, length, true, false, Some, Ok}
 use Rattle.ddf_bay.specs.Sectors.{Image}
 use Rattle.ddf_array.specs.Apart.{IsApart}
 use Rattle.ddf_array.specs.Sound.{AreSectors}
@@ -33,8 +33,9 @@ use Rattle.ddf_rebuild_command.specs.BackPlans.{IsHere}
 use Rattle.ddf_rebuild_command.specs.GoingBack.{back_to, copyback_request}
 use Rattle.ddf_rebuild_command.specs.Rounds.{IsSure}
 
--- The position of the array that goes back, and its room on the disk of the slot, where no array has an extent: it is filled on the slot of that disk's seat. The first steps are the recovery; the last is behind the
--- copying, and by it the position is at its room. The view is behind the first, of an array within its level.
+-- The position of the array that goes back, and its room on the disk of the slot, where no array has an extent: it is filled on the slot of that disk's seat.
+-- The first steps are the recovery; the last is behind the copying, and by it the position is at its room. The view is behind the first, of an array within
+-- its level.
 pub record IsBackPlanned (sizes : List ℕ) (found : GroupValue) (timestamp : ℕ) (word : List ℕ) (slot : ℕ) : Type 0 where
   pub entry : Entry
   pub is_named : named_array (config_recovered found).arrays word ≡ Some entry

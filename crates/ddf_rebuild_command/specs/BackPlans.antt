@@ -13,7 +13,7 @@ use Rattle.ddf_config.specs.Seats.{SeatsFit, floor_of, slot_of}
 use Rattle.ddf_config.specs.declared.extent.Extent.{Extent}
 use Rattle.ddf_config.specs.declared.seat.Seat.{Seat}
 use Rattle.ddf_rebuild.specs.Target.{IsAside}
-use Rattle.ddf_repair.specs.Choose.{chosen, room_for}
+use Rattle.ddf_repair.specs.Choose.{chosen}
 use Rattle.ddf_repair.specs.declared.first.Target.{Target}
 use Rattle.ddf_steps.specs.Asked.{CanBeAsked}
 use Rattle.ddf_history_steps.specs.BlockFloors.{floor_in}

@@ -1,4 +1,4 @@
-//! The group that a disk shows.
+//! The group that a disk shows, for a group that is named by its first digits. docs/COMMANDS.md#arguments
 use ddf_bay::Bay;
 use ddf_bytes::{Guid, NoMemory};
 use ddf_copy::{ShowFault, anchor_of, newest};

@@ -1,4 +1,4 @@
-//! The numbers behind a refusal: how much room there is, how much was asked for, and how much a table holds.
+//! The numbers behind a refusal: how much room there is, how much was asked for, and how much a table holds. docs/REFUSALS.md#by-number
 use crate::shape::name_shape;
 use crate::spares::name_spares;
 use ddf_assembly::{Group, assemble};

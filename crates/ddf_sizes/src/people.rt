@@ -1,4 +1,4 @@
-//! What somebody at a terminal sees after `show`: the image of each slot, and sizes with units.
+//! What somebody at a terminal sees after `show`: the image of each slot, and sizes with units. docs/COMMANDS.md#show
 use ddf_assembly::{Group, assemble};
 use ddf_bay::Bay;
 use ddf_bytes::{Guid, NoMemory};

@@ -1,4 +1,4 @@
-//! Why the numbers of a new array make none.
+//! Why the numbers of a new array make none. docs/REFUSALS.md#19-shape
 use crate::numbers::strip_of;
 use ddf_words::{CreateElement, Creation};
 

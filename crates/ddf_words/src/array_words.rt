@@ -1,4 +1,4 @@
-//! The commands over a whole array.
+//! The words of the commands over a whole array. docs/COMMANDS.md#arguments
 ghost use Rattle.std.specs.Prelude.{◌≡◌, ◌∷◌, ℕ, true, codes, drop, IfOk};
 ghost use Rattle.ddf_words.specs.Traits.{traits_of};
 ghost use Rattle.ddf_words.specs.Words.{Word, words_of, Spells, SpellNamed, IsGroupCommand, IsNamed, GoWrongAt};

@@ -1,4 +1,4 @@
-//! The command that a line asks for.
+//! The command that a line of a batch asks for, by the readers of the program's own words. docs/COMMANDS.md#batch
 ghost use Rattle.std.specs.Prelude.{◌≡◌, ◌⊎◌, ◌∷◌, ℕ, List, [], slice_index_or, IfOk, string_bytes};
 ghost use Rattle.ddf_words.specs.Commands.{FitsCommand};
 ghost use Rattle.ddf_words.specs.Words.{Word, GoWrongAt, dashes, words_of};

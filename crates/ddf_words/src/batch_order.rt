@@ -1,4 +1,4 @@
-//! Whether the words ask for a batch.
+//! Whether the words ask for a batch. docs/COMMANDS.md#batch
 ghost use Rattle.std.specs.Prelude.{◌≡◌, ◌∷◌, ◌++◌, [], codes, slice_index_or, IfOk};
 ghost use Rattle.std.specs.Str.{bytes_eq};
 ghost use Rattle.ddf_words.specs.Words.{words_of, GoWrongAt, IsAccepted};

@@ -1,4 +1,4 @@
-//! The words of a line.
+//! The words of a line of a batch: its parts between single spaces, with slots for the images that stand for them. docs/COMMANDS.md#batch
 ghost use Rattle.std.specs.Prelude.{◌≡◌, ◌∷◌, List, IfOk, position, string_bytes};
 ghost use Rattle.std.specs.List.{list_all};
 ghost use Rattle.std.specs.Str.{bytes_eq};

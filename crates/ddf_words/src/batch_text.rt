@@ -1,4 +1,5 @@
-//! Bytes as text.
+//! Bytes of a batch as text: what is no UTF-8 becomes a byte that no word has, so that its line is refused, and not guessed at.
+//! docs/FAULTS.md#bytes-of-a-batch-that-are-no-text
 ghost use Rattle.std.specs.Prelude.{◌≡◌, ◌-◌, length, map, slice_index, true, false};
 ghost use Rattle.std.specs.Str.{IsUtf8};
 ghost use Rattle.ddf_words.specs.Lines.{is_end, without_end};

@@ -1,4 +1,4 @@
-//! The words of commands over the blocks of an array.
+//! The words of commands over the blocks of an array. docs/COMMANDS.md#arguments
 ghost use Rattle.std.specs.Prelude.{◌≡◌, ◌∷◌, ℕ, drop, IfOk};
 ghost use Rattle.ddf_words.specs.Words.{Word, words_of, AreBlocks, SpellBlocks, GoWrongAt};
 

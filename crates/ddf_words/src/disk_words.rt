@@ -1,4 +1,4 @@
-//! The commands over the disk of a slot.
+//! The words of the commands over the disk of a slot. docs/COMMANDS.md#arguments
 ghost use Rattle.std.specs.Prelude.{◌≡◌, ◌∷◌, ℕ, true, codes, drop, IfOk};
 ghost use Rattle.ddf_words.specs.Traits.{traits_of};
 ghost use Rattle.ddf_words.specs.Words.{words_of, Spells, SpellsSpare, AreSpareWords, IsGroupCommand, GoWrongAt};

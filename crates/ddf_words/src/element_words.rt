@@ -1,4 +1,4 @@
-//! The words of the elements of an array.
+//! The words of the elements of an array. docs/COMMANDS.md#create
 ghost use Rattle.std.specs.Prelude.{◌≡◌, ℕ, List, None, IfOk, IfSome};
 ghost use Rattle.ddf_words.specs.Words.{words_of, AreElements, AreElementWords, SpellsElement, SpellsSlots, GoWrongAt};
 

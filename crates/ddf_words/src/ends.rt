@@ -1,4 +1,4 @@
-//! Where words end.
+//! Where words end: what stands behind the last that a command takes is a wrong word, and isn't passed over. docs/REFUSALS.md#10-word-p
 ghost use Rattle.std.specs.Prelude.{◌≡◌, ◌<◌, ◌≤◌, ℕ, length, IfOk};
 ghost use Rattle.ddf_words.specs.Words.{words_of};
 

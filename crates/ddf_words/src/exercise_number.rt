@@ -1,4 +1,4 @@
-//! Numbers among words.
+//! The number at a place of an exercise's words. docs/COMMANDS.md#exercise
 ghost use Rattle.std.specs.Prelude.{◌≡◌, IfSome};
 ghost use Rattle.ddf_words.specs.Words.{words_of, IsNumber, LacksAt, SpellsNumber, StandsAt};
 

@@ -1,4 +1,4 @@
-//! The words of an import.
+//! The words of an import. docs/COMMANDS.md#import
 ghost use Rattle.std.specs.Prelude.{◌≡◌, ◌∷◌, ℕ, List, true, codes, drop, IfOk, IfSome};
 ghost use Rattle.ddf_words.specs.Traits.{traits_of};
 ghost use Rattle.ddf_words.specs.Words.{words_of, Spells, SpellsGuid, IsGuidWord, IsGroupCommand, LacksAt, StandsAt, GoWrongAt};

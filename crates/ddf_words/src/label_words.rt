@@ -1,4 +1,4 @@
-//! The words behind `label`: how the disks are made, how large their group is, and the numbers of slots.
+//! The words behind `label`: how the disks are made, how large their group is, and the numbers of slots. docs/COMMANDS.md#label
 ghost use Rattle.std.specs.Prelude.{◌≡◌, ◌≢◌, ◌∷◌, ℕ, List, None, codes, IfOk, IfSome};
 ghost use Rattle.ddf_words.specs.Words.{Word, words_of, NameDisks, NameSized, SpellSized, Spells, GoWrongAt};
 

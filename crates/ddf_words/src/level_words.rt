@@ -1,4 +1,4 @@
-//! The words of the levels of an array.
+//! The words of the levels of an array: a level, and how its rows lie. docs/PLACING.md#primary-levels
 ghost use Rattle.std.specs.Prelude.{◌≡◌, ℕ, Some, IfOk};
 ghost use Rattle.ddf_words.specs.Words.{words_of, said_by, level_rows, secondary_rows, IsLevel, IsSecondary, LacksAt, StandsAt};
 

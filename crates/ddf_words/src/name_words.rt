@@ -1,4 +1,4 @@
-//! The words that name arrays.
+//! The words that name arrays. docs/COMMANDS.md#arguments
 ghost use Rattle.std.specs.Prelude.{◌≡◌, ◌≢◌, ◌↔◌, ◌≤◌, ℕ, IsTrue, length, string_bytes, IfOk};
 ghost use Rattle.ddf_words.specs.Words.{words_of, AreNames, GoWrongAt, IsName, IsPlainName, IsHexName, LacksAt, StandsAt};
 

@@ -1,4 +1,5 @@
 //! The words that the program is given: the paths of images, two dashes, the name of a group where one is meant, and a command.
+//! docs/COMMANDS.md#arguments
 ghost use Rattle.std.specs.Prelude.{◌≡◌, ◌≢◌, ◌<◌, ◌≤◌, ◌⊎◌, ◌↔◌, ℕ, All, length, IsTrue, position, string_bytes, IfOk, IfErr};
 ghost use Rattle.ddf_words.specs.Commands.{FitsCommand};
 ghost use Rattle.ddf_words.specs.Words.{words_of, images_of, is_dashes, slot_count, IsNextImage, IsAsked, IsAccepted, LeadsWithImages, GoWrongAt};
