@@ -2,7 +2,8 @@
 # What the program asks, names and explains on standard error: questions at a terminal, --careful and --yes, disks that hold something, disks that can't be written
 # to, readers beside writers, help, a line for each refusal, and what a command left that a disk failed under. scripts/edge.sh has what else is around the program.
 #
-#   asking.sh [PROGRAM [OTHER]]     with another program than the one that is built here, where OTHER makes the groups that it is tried on
+#   asking.sh [PROGRAM [OTHER]]     with another program than the one that is built here, which DDF may name too, where OTHER makes the
+#                                   groups that it is tried on
 set -eu
 LC_ALL=C
 export LC_ALL
@@ -17,8 +18,8 @@ trap 'eval "$last"; rm -rf "$work"' EXIT
 if [ $# -gt 0 ]; then
     cp "$1" "$work/ddf"
 else
-    "$top/ddf" --version >/dev/null
-    cp "$top/crates/ddf/out/ddf" "$work/ddf"
+    [ -n "${DDF:-}" ] || "$top/ddf" --version >/dev/null
+    cp "${DDF:-$top/crates/ddf/out/ddf}" "$work/ddf"
 fi
 cd "$work"
 exec </dev/null

@@ -2,7 +2,7 @@
 # Runs the program in hard surroundings: closed streams, paths that can't be opened, disks that may not be written, that are
 # locked, absent or not empty, one disk under two names, wrong words, a system that gives too little, the largest disks. Each run
 # ends with the wanted status and output, and no image changes but those that a command is to change. Disks that fail are
-# scripts/faults.sh.
+# scripts/faults.sh. DDF names a built program.
 set -eu
 PATH=$PATH:/sbin:/usr/sbin
 top=$(cd "$(dirname "$0")/.." && pwd)
@@ -10,8 +10,8 @@ top=$(cd "$(dirname "$0")/.." && pwd)
 . "$top/scripts/lacking.sh"
 work=$(mktemp -d)
 trap 'rm -rf "$work"' EXIT
-"$top/ddf" --version >/dev/null
-cp "$top/crates/ddf/out/ddf" "$work/ddf"
+[ -n "${DDF:-}" ] || "$top/ddf" --version >/dev/null
+cp "${DDF:-$top/crates/ddf/out/ddf}" "$work/ddf"
 cd "$work"
 exec </dev/null
 chmod 755 .

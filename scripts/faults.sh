@@ -391,6 +391,64 @@ try_copyback() {
     done
 }
 
+# is_behind: a disk has the last change of the group, and another one hasn't.
+is_behind() {
+    ends 0 "group" $images -- show
+    grep -q " behind$" out
+}
+
+# A read of the `assemble` behind a copyback that was cut in its step fails: the group may go on without that disk. Its array has all blocks, or is told to have failed, and
+# the disk whose read failed is named, then, and by the next command as one that is to be left as it is; the spare and the new disk have all blocks still, where they lay.
+is_kept_or_told() {
+    [ "$status" = 0 ] || [ "$status" = 3 ] || fail "status $status: $1"
+    if echo "$told" | grep -q "^array v blocks 128 failed$"; then
+        grep -q "a call on it failed" err || fail "no line names the disk that failed: $1"
+        for image in c.img d.img; do
+            head -c 65536 $image | cmp -s - blocks_of_group || fail "$image hasn't the blocks any more: $1"
+        done
+        ends 0 "group" $images -- show
+        grep -q "this disk may be all that has some of its blocks, so wipe nothing and write nothing to it" err || fail "the next command doesn't name the disk: $1"
+        gone=$((gone + 1))
+        return
+    fi
+    ends 0 "" $images -- read v 0 128
+    cmp -s out blocks_of_group || fail "a block is other than it was: $1"
+}
+
+# behind_cuts: the copyback is killed at each seventh write, and where that leaves a disk behind each STEP-th read of the `assemble` fails.
+behind_cuts() {
+    cut=0 cuts=0 gone=0
+    restore
+    while met write kill "$cut" copyback v d.img; do
+        if is_behind; then
+            keep
+            each_call read fails is_kept_or_told assemble >calls
+            cuts=$((cuts + 1))
+            for image in $images; do cp --sparse=always "stood-$image" "kept-$image"; done
+        fi
+        cut=$((cut + 7))
+        restore
+    done
+    restore
+    [ "$cuts" -gt 1 ] || fail "no copyback was cut in its step"
+}
+
+# A copyback that was cut in its step, and then a look that fails: whatever the array is short of before.
+try_behind() {
+    images="a.img b.img c.img d.img" named='' other=''
+    new_group
+    ends 0 "ok sequence 6" $images -- spare c.img revertible
+    ends 0 "ok sequence 8" $images -- fail b.img
+    ends 0 "ok sequence 10" $images -- rebuild v
+    for images in "a.img c.img d.img" "c.img d.img"; do
+        ends 0 "group" $images -- assemble
+        keep
+        for image in $images; do cp --sparse=always "$image" "stood-$image"; done
+        behind_cuts
+        echo "faults: $cuts copybacks that were cut in their step, over $images: no block was lost where a read of the next assemble fails, but $gone times by an array that failed, and was told to"
+    done
+}
+
 # holds FILE: the array has the blocks of this file, over the image with bad sectors that is tried.
 holds() {
     over_bad "$bad" BAD_READS "$range" 0 "" $images -- read v 0 "$blocks"
@@ -537,5 +595,6 @@ try_file_system
 try_import
 try_rebuild
 try_copyback
+try_behind
 try_beside
 all_tried faults

@@ -1,9 +1,11 @@
 #!/usr/bin/env python3
-"""Plays random histories of two groups over disks in memory, one of which joins the other by an import: commands that are stopped or meet failing writes, losses and returns of
-disks, stops that keep some of the writes that no sync made sure. Of half of them some disks have bad sectors under their arrays, which lie at spare places. Behind each it looks
-whether what the program promises holds: what was acknowledged is there (promise:acknowledged), the groups are assembled, the import has happened or it hasn't (promise:joined), each
-block of both groups has its last acknowledged bytes, or the old or new ones of a write that was cut short (promise:read), and positions lie on the disks that rebuilds and copybacks
-put them on, the spares being those that they leave (promise:returned): so the arrays are told to be as they are, a copyback is answered as it should be, and blocks are read short of a disk.
+"""Plays random histories of two groups over disks in memory, one of which joins the other by an import: commands that are stopped or meet failing
+writes, losses and returns of disks, stops that keep some of the writes that no sync made sure. Of half of them some disks have bad sectors under
+their arrays, which lie at spare places. Behind each it looks whether what the program promises holds: what was acknowledged is there
+(promise:acknowledged), the groups are assembled, the import has happened or it hasn't (promise:joined), each block of both groups has its last
+acknowledged bytes, or the old or new ones of a write that was cut short (promise:read), and positions lie on the disks that rebuilds and copybacks
+put them on, the spares being those that they leave (promise:returned): so the arrays are told to be as they are, a copyback is answered as it should
+be, and blocks are read short of a disk.
 
     scripts/histories.py [COUNT [SEED]]
 
@@ -305,7 +307,8 @@ class Judge:
         # Where the positions of each group may lie, those that the last look told of, and the groups that were looked at since anything happened.
         self.layouts = {group: {Layout(group.slots)} for group in (host, guest)}
         self.now, self.fresh, self.whole, self.is_sure = dict(self.layouts), set(), set(), True
-        # Whether the group that goes on is told to have the other one's disks, where that is known, and whether it is for good: since that is acknowledged, or as long as no disk is lost.
+        # Whether the group that goes on is told to have the other one's disks, where that is known, and whether it is for good: since that is acknowledged, or
+        # as long as no disk is lost.
         self.is_in, self.is_asked = False, False
         self.is_known, self.is_settled = True, True
         self.must_be_in, self.stays_in = False, False

@@ -188,8 +188,8 @@ $ create own jbod 0 single 0@4
 $ label 1
 $ @$small create solo jbod 0 single 1@4"
 
-# scenario ANSWERED LINE..: a scenario with these lines, of which the last has the command, and a look at all that the disks hold before and behind it. So many of the lines at its end are
-# answered: as the scenario is read, before the command, each answer takes one allocation, and nothing else differs.
+# scenario ANSWERED LINE..: a scenario with these lines, of which the last has the command, and a look at all that the disks hold before and behind it. So many
+# of the lines at its end are answered: as the scenario is read, before the command, each answer takes one allocation, and nothing else differs.
 scenario() {
     replies=$1
     shift
@@ -201,9 +201,9 @@ scenario() {
     awk -v pads=$pads -v replies="$replies" 'BEGIN { for (i = 0; i < pads; i++) print i < replies ? "% calls      \n0" : "% unplug none\n#" }'
 }
 
-# Judges what scenarios printed, the first of them without a refusal, each behind a line `== NUMBER`: memory ran out and the disks hold what they held, or it made no difference in the
-# command, or it was refused in a look before the command or behind it. Prints how often it was which, how many are faults, and the first and the last number at which memory ran out in
-# the command.
+# Judges what scenarios printed, the first of them without a refusal, each behind a line `== NUMBER`: memory ran out and the disks hold what they held, or it
+# made no difference in the command, or it was refused in a look before the command or behind it. Prints how often it was which, how many are faults, and the
+# first and the last number at which memory ran out in the command.
 judge_scenarios() {
     awk '
     function take() {
@@ -233,8 +233,8 @@ judge_scenarios() {
     END { take(); print refused + 0, same + 0, early + 0, late + 0, faults + 0, first + 0, last + 0 }'
 }
 
-# refuse_in NAME LINE..: plays such a scenario with each allocation refused in turn, and makes the cases of it in which the allocation `refused_one` falls into the command, or right before
-# it or behind it.
+# refuse_in NAME LINE..: plays such a scenario with each allocation refused in turn, and makes the cases of it in which the allocation `refused_one` falls into
+# the command, or right before it or behind it.
 refuse_in() {
     name=$1
     shift
@@ -259,8 +259,8 @@ END
     done
 }
 
-# Over disks in memory, and then by `rt try` too, which builds what plays scenarios once, with a look at each access to memory, and refuses one allocation of each run, the same one in
-# each case.
+# Over disks in memory, and then by `rt try` too, which builds what plays scenarios once, with a look at each access to memory, and refuses one allocation of
+# each run, the same one in each case.
 try_scenarios_memory() {
     build_rig
     build_faults || return 0

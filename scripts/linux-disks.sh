@@ -2,14 +2,16 @@
 # Runs `examine`, `show` and `assemble` over disks as Linux's mdadm left them, and compares what they print with what an independent
 # reader found; and reads their arrays, whole and without each disk that the level can do without, and compares the checksum of all
 # blocks with the one that Linux found. Linux has resynced these arrays, so `scrub` finds them clean; a copy of one with a byte changed it doesn't.
-# By these commands nothing may be written to an image (promise:looks). Then blocks are written to a copy of each set by `write`, and are read back with all others as they were, whole and
-# without each disk; a second resync of the array finds it as it was. Disks of one of the groups join another one by `import`. An image that `label` made has the standard's checksums. The disks lie in
-# scripts/linux-disks; DDF_DISKS names another folder of NAME.tar.xz with the images, and NAME.examine.txt and NAME.assemble.txt with
-# the wanted texts. A set without texts is a mirror whose first resync Linux didn't finish.
+# By these commands nothing may be written to an image (promise:looks). Then blocks are written to a copy of each set by `write`, and are read back with all
+# others as they were, whole and without each disk; a second resync of the array finds it as it was. Disks of one of the groups join another one by `import`. An
+# image that `label` made has the standard's checksums. The disks lie in scripts/linux-disks; DDF_DISKS names another folder of NAME.tar.xz with the images, and
+# NAME.examine.txt and NAME.assemble.txt with the wanted texts. A set without texts is a mirror whose first resync Linux didn't finish. DDF names a built
+# program.
 set -eu
 top=$(cd "$(dirname "$0")/.." && pwd)
 # shellcheck disable=SC1091
 . "$top/scripts/lacking.sh"
+ddf=$(readlink -f "${DDF:-$top/ddf}")
 disks=${DDF_DISKS:-$top/scripts/linux-disks}
 [ -d "$disks" ] || lacks "no folder $disks"
 command -v xz >/dev/null || lacks "no xz"
@@ -25,7 +27,7 @@ fail() {
 blocks_of() {
     count=$1
     shift
-    "$top/ddf" "$@" -- read data 0 "$count" 2>/dev/null
+    "$ddf" "$@" -- read data 0 "$count" 2>/dev/null
 }
 
 # The blocks of each array, and the SHA-256 of its bytes as Linux's kernel read them.
@@ -54,13 +56,13 @@ compare_blocks() {
 compare_copies() {
     label=$1
     shift
-    [ "$("$top/ddf" "$@" -- scrub data 2>/dev/null)" = clean ] || fail "scrub doesn't find $label clean"
+    [ "$("$ddf" "$@" -- scrub data 2>/dev/null)" = clean ] || fail "scrub doesn't find $label clean"
     cp "$1" "$work/changed"
     byte=$(od -An -tu1 -N1 "$1" | tr -d ' ')
     # shellcheck disable=SC2059
     printf "\\$(printf %03o $(((byte + 1) % 256)))" | dd of="$work/changed" conv=notrunc 2>/dev/null
     shift
-    found=$("$top/ddf" "$work/changed" "$@" -- scrub data 2>/dev/null) || fail "scrub of a changed $label failed"
+    found=$("$ddf" "$work/changed" "$@" -- scrub data 2>/dev/null) || fail "scrub of a changed $label failed"
     [ "$found" = "differs element 0 row 0" ] || fail "scrub of a changed $label says $found"
 }
 
@@ -91,10 +93,10 @@ write_blocks() {
     head -c $((5000 * 512)) /dev/urandom >"$work/new"
     dd if="$work/new" of="$work/blocks" bs=512 seek=1000 conv=notrunc 2>/dev/null
     wanted=$(sha256sum <"$work/blocks" | cut -d' ' -f1)
-    "$top/ddf" "$@" -- write data 1000 5000 <"$work/new" >"$work/told" 2>/dev/null || fail "write of $label says $(cat "$work/told")"
+    "$ddf" "$@" -- write data 1000 5000 <"$work/new" >"$work/told" 2>/dev/null || fail "write of $label says $(cat "$work/told")"
     compare_all "a written $label" "$blocks" "$wanted" "$@"
-    [ "$("$top/ddf" "$@" -- scrub data 2>/dev/null)" = clean ] || fail "scrub doesn't find a written $label clean"
-    "$top/ddf" "$@" -- resync data >"$work/told" 2>/dev/null || fail "resync of $label says $(cat "$work/told")"
+    [ "$("$ddf" "$@" -- scrub data 2>/dev/null)" = clean ] || fail "scrub doesn't find a written $label clean"
+    "$ddf" "$@" -- resync data >"$work/told" 2>/dev/null || fail "resync of $label says $(cat "$work/told")"
     compare_all "a resynced $label" "$blocks" "$wanted" "$@"
 }
 
@@ -104,31 +106,32 @@ refuse_blocks() {
     shift
     for command in "read data 0 1" "write data 0 1" "scrub data" "resync data" "rebuild data"; do
         # shellcheck disable=SC2086
-        told=$(head -c 512 /dev/zero | "$top/ddf" "$@" -- $command 2>/dev/null) || true
+        told=$(head -c 512 /dev/zero | "$ddf" "$@" -- $command 2>/dev/null) || true
         [ "$told" = "refused 18 level 11 RAID 1E" ] || fail "$command of $label says $told"
     done
 }
 
 # The group that a set of images shows.
 group_of() {
-    "$top/ddf" "$@" -- show 2>/dev/null | sed -n 's/^group \([0-9a-f]*\) .*/\1/p'
+    "$ddf" "$@" -- show 2>/dev/null | sed -n 's/^group \([0-9a-f]*\) .*/\1/p'
 }
 
-# Takes the disks of one of Linux's groups into another one, whose tables are as large, and compares the blocks of their array. A disk that was labelled here has smaller tables, and can't join.
+# Takes the disks of one of Linux's groups into another one, whose tables are as large, and compares the blocks of their array. A disk that was labelled here
+# has smaller tables, and can't join.
 import_group() {
     mkdir "$work/own" "$work/its"
     tar -xJf "$disks/r10.tar.xz" -C "$work/own"
     tar -xJf "$disks/r5-ra.tar.xz" -C "$work/its"
     own=$(group_of "$work/own"/*.img) its=$(group_of "$work/its"/*.img)
-    told=$("$top/ddf" "$work/own"/*.img "$work/its"/*.img -- "@$own" import "$its" 2>/dev/null) || true
+    told=$("$ddf" "$work/own"/*.img "$work/its"/*.img -- "@$own" import "$its" 2>/dev/null) || true
     [ "$told" = "refused 17 name taken" ] || fail "an import of an array with a name that is taken says $told"
-    "$top/ddf" "$work/own"/*.img -- delete data >/dev/null 2>&1 || fail "delete of Linux's array failed"
-    told=$("$top/ddf" "$work/own"/*.img "$work/its"/*.img -- "@$own" import "$its" 2>/dev/null) || fail "an import of Linux's disks says $told"
+    "$ddf" "$work/own"/*.img -- delete data >/dev/null 2>&1 || fail "delete of Linux's array failed"
+    told=$("$ddf" "$work/own"/*.img "$work/its"/*.img -- "@$own" import "$its" 2>/dev/null) || fail "an import of Linux's disks says $told"
     sums=$(sum_of r5-ra)
     compare_all "an imported r5-ra" "${sums% *}" "${sums#* }" "$work/own"/*.img "$work/its"/*.img
     truncate -s 64M "$work/linux.img"
-    "$top/ddf" "$work/linux.img" -- label linux >/dev/null 2>&1 || fail "label linux failed"
-    told=$("$top/ddf" "$work/own"/*.img "$work/its"/*.img "$work/linux.img" -- "@$own" import "$(group_of "$work/linux.img")" 2>"$work/said") || true
+    "$ddf" "$work/linux.img" -- label linux >/dev/null 2>&1 || fail "label linux failed"
+    told=$("$ddf" "$work/own"/*.img "$work/its"/*.img "$work/linux.img" -- "@$own" import "$(group_of "$work/linux.img")" 2>"$work/said") || true
     [ "$told" = "refused 29 geometry" ] || fail "an import of a disk with smaller tables says $told"
     grep -q "has tables for 15 disks, 15 arrays" "$work/said" || fail "an import says of tables: $(cat "$work/said")"
     echo "linux-disks: disks of one group joined another one with their array, and one with smaller tables was refused"
@@ -141,10 +144,10 @@ for text in "$disks"/*.examine.txt; do
     mkdir "$work/$name"
     tar -xJf "$disks/$name.tar.xz" -C "$work/$name"
     sha256sum "$work/$name"/*.img >"$work/before"
-    "$top/ddf" "$work/$name"/*.img -- examine >"$work/told" 2>"$work/notes" || fail "examine of $name failed"
+    "$ddf" "$work/$name"/*.img -- examine >"$work/told" 2>"$work/notes" || fail "examine of $name failed"
     diff -u "$disks/$name.examine.txt" "$work/told" || fail "$name differs"
     for command in show assemble; do
-        "$top/ddf" "$work/$name"/*.img -- "$command" >"$work/told" 2>"$work/said" || fail "$command of $name failed"
+        "$ddf" "$work/$name"/*.img -- "$command" >"$work/told" 2>"$work/said" || fail "$command of $name failed"
         diff -u "$disks/$name.assemble.txt" "$work/told" || fail "the group of $name differs for $command"
         ! grep "first resync" "$work/said" || fail "$command of $name speaks of a resync that was finished"
     done
@@ -177,7 +180,7 @@ if [ -f "$archive" ]; then
     said="ddf: array data: Linux had not finished its first resync; blocks that need parity may be wrong"
     for command in show assemble "read data 0 8"; do
         # shellcheck disable=SC2086
-        "$top/ddf" "$work/midsync"/*.img -- $command >"$work/told" 2>"$work/said" || fail "$command of an unfinished array failed"
+        "$ddf" "$work/midsync"/*.img -- $command >"$work/told" 2>"$work/said" || fail "$command of an unfinished array failed"
         grep -q -x "$said" "$work/said" || fail "$command doesn't name an unfinished array: $(cat "$work/said")"
         ! grep -q -i resync "$work/told" || fail "$command prints what is for standard error"
     done
@@ -188,8 +191,8 @@ fi
 
 image=$work/new.img
 truncate -s 32M "$image"
-"$top/ddf" "$image" -- label >/dev/null || fail "label failed"
-"$top/ddf" "$image" -- examine >"$work/told" 2>"$work/notes" || fail "examine of a new image failed"
+"$ddf" "$image" -- label >/dev/null || fail "label failed"
+"$ddf" "$image" -- examine >"$work/told" 2>"$work/notes" || fail "examine of a new image failed"
 ! grep -q "checksums as Linux's mdadm counts them" "$work/notes" || fail "a new image is turned"
-"$top/ddf" "$image" -- show 2>&1 | grep -q "first resync" && fail "a new image speaks of Linux"
+"$ddf" "$image" -- show 2>&1 | grep -q "first resync" && fail "a new image speaks of Linux"
 echo "linux-disks: an image that label made is not turned"

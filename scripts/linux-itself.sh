@@ -6,11 +6,12 @@
 # Linux runs as a process over image files: Debian's user-mode-linux (apt-get install user-mode-linux mdadm gcc), whose md starts what mdadm finds. It sees
 # this machine's file system, and writes to a folder of temporary files in it alone; nothing of this machine is assembled. UML names a folder where that package was unpacked.
 #
-# - Of each array of STARTED `ddf` writes all blocks, Linux starts it and reads them, and writes others; `ddf` then finds it unmarked and clean, and reads what Linux wrote, whole and
-#   without each disk where its level allows it. Then `ddf` writes once more short of a disk, and Linux reads that; of an array with parity `ddf` drops the disk, and Linux reads what
-#   it wrote itself.
+# - Of each array of STARTED `ddf` writes all blocks, Linux starts it and reads them, and writes others; `ddf` then finds it unmarked and clean, and reads what
+#   Linux wrote, whole and without each disk where its level allows it. Then `ddf` writes once more short of a disk, and Linux reads that; of an array with
+#   parity `ddf` drops the disk, and Linux reads what it wrote itself.
 # - Of each of UNSTARTED Linux starts none.
-# - Of each of HALF a disk is lost, and the rebuild on a spare, its last disk, is killed half way: Linux leaves that disk alone, and reads and writes the array; `ddf` ends the rebuild.
+# - Of each of HALF a disk is lost, and the rebuild on a spare, its last disk, is killed half way: Linux leaves that disk alone, and reads and writes the array;
+#   `ddf` ends the rebuild.
 # - Of each of SPARED the last three disks are a revertible spare, a global one and a member without use: what `ddf` finds of them where Linux wrote
 #   the array's blocks, where it filled one of them in place of a disk that failed there, and where the revertible one stood in; what is done then; and
 #   that a `copyback` that is killed half way leaves Linux nothing to do.

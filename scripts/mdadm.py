@@ -1,12 +1,13 @@
 #!/usr/bin/env python3
 """Makes disks with `label linux` and changes them, and asks Linux's mdadm what they are.
 
-Behind each change of a group, from its label on, mdadm names the container, the number of the change, each array with its level, size and disks,
-and the state of each disk, as was worked out by hand from the changes: of each disk behind the first two, of one of each kind behind the others. Each record of each disk has the CRC that Linux counts, which is counted here, not by
-`ddf`. A disk that a plain `label` makes mdadm doesn't take. The program's standard error says what Linux doesn't take, and no more.
+Behind each change of a group, from its label on, mdadm names the container, the number of the change, each array with its level, size and disks, and
+the state of each disk, as was worked out by hand from the changes: of each disk behind the first two, of one of each kind behind the others. Each
+record of each disk has the CRC that Linux counts, which is counted here, not by `ddf`. A disk that a plain `label` makes mdadm doesn't take. The
+program's standard error says what Linux doesn't take, and no more.
 
-Where there is no mdadm it ends with 77: MDADM names one that stands in no folder of commands. It reads the images as files, so that nothing is
-assembled, and nothing of the system changes.
+Where there is no mdadm it ends with 77: MDADM names one that stands in no folder of commands, and DDF a built program. It reads the images as files,
+so that nothing is assembled, and nothing of the system changes.
 """
 import os
 import re
@@ -21,6 +22,7 @@ from pathlib import Path
 TOP = Path(__file__).resolve().parent.parent
 os.environ["PATH"] += os.pathsep + "/sbin:/usr/sbin"
 MDADM = os.environ.get("MDADM", "mdadm")
+PROGRAM = Path(os.environ.get("DDF", TOP / "ddf")).resolve()
 PARTLY = "Linux doesn't start it with all its disks: it takes none of 65536 sectors or less"
 FORCED = "Linux doesn't start it without --force: nothing has made its parity agree with its data yet"
 
@@ -71,7 +73,7 @@ def stop(why):
 
 def ddf(images, *words):
     """What a command prints, and the lines of standard error that speak of Linux."""
-    ended = subprocess.run([TOP / "ddf", *images, "--", *words], stdin=subprocess.DEVNULL, capture_output=True, text=True, check=False)
+    ended = subprocess.run([PROGRAM, *images, "--", *words], stdin=subprocess.DEVNULL, capture_output=True, text=True, check=False)
     if ended.returncode != 0:
         stop(f"{words} ended with {ended.returncode}: {ended.stdout}{ended.stderr}")
     return ended.stdout, [line.removeprefix("ddf: ") for line in ended.stderr.splitlines() if "Linux doesn't" in line]

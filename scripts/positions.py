@@ -1,5 +1,5 @@
-"""Where the positions of a group's arrays lie, by the slots of their disks, which are in sync, which disks are spares, and which stand in: a model of its own of what losses, rebuilds
-and copybacks make of it, for scripts/histories.py. Marks, sectors and sequence numbers are none of it."""
+"""Where the positions of a group's arrays lie, by the slots of their disks, which are in sync, which disks are spares, and which stand in: a model of
+its own of what losses, rebuilds and copybacks make of it, for scripts/histories.py. Marks, sectors and sequence numbers are none of it."""
 from dataclasses import dataclass, replace
 from typing import NamedTuple
 

@@ -2,6 +2,7 @@
 """Makes the index of scenarios, docs/SCENARIOS.md, and what the gate plays of crates/ddf_rig/data: its files `args` and `stdout`.
 
     scripts/scenarios.py [--check]
+    scripts/scenarios.py REFUSAL..      prints the files that show these, as 24 or conflict: scripts/quick.sh $(scripts/scenarios.py 24)
 
 A scenario is a file of at most 120 lines. It begins with comments, whose first sentence says what it shows, and is named so; its
 folder is what it is about. A file `parts.txt` or `NAME-parts.txt` has parts alone, which others play that name it by `% from FILE`.
@@ -284,16 +285,21 @@ def told_in(found: Scenario, begin: str) -> tuple[int, int]:
     return counts[0], counts[1]
 
 
+def showing(number: str, all_found: list[Scenario]) -> list[str]:
+    """The files that show a refusal, those first that show it most often, apart from sweeps."""
+    begin = rf"refused {number}\b" if number.isdigit() else rf"{number} slots\b"
+    counts = {it.path: told_in(it, begin) for it in all_found if it.path != WRONG}
+    paths = sorted((path for path, (one, swept) in counts.items() if one or swept), key=lambda path: (*(-count for count in counts[path]), path))
+    if not paths:
+        stop(f"no scenario shows the refusal {number}")
+    return paths
+
+
 def by_refusal(all_found: list[Scenario]) -> list[str]:
-    intro = ["Files that show it, those first that show it most often, apart from sweeps.", "[REFUSALS.md](REFUSALS.md) says why each comes, and the way out."]
+    intro = ["Files that show it, those first that show it most often, apart from sweeps.", "[REFUSALS.md](REFUSALS.md) says why each comes, and the way out;", "`scripts/scenarios.py 24` prints all files that show one."]
     lines = ["## By refusal", "", *intro, ""]
     for number, words in sorted(refusals().items()):
-        begin = rf"refused {number}\b" if number.isdigit() else rf"{number} slots\b"
-        counts = {it.path: told_in(it, begin) for it in all_found if it.path != WRONG}
-        paths = sorted((path for path, (one, swept) in counts.items() if one or swept), key=lambda path: (*(-count for count in counts[path]), path))
-        if not paths:
-            stop(f"no scenario shows the refusal {number}")
-        lines.append(item(f"**{words}**: {several(paths)}"))
+        lines.append(item(f"**{words}**: {several(showing(number, all_found))}"))
     return [*lines, ""]
 
 
@@ -329,6 +335,9 @@ def main() -> None:
     to_play = [it for it in all_found if not it.is_parts()]
     if empty := [it.path for it in to_play if not it.steps]:
         stop(f"these have no step: {empty}")
+    if asked := [word for word in sys.argv[1:] if word != "--check"]:
+        print("\n".join(dict.fromkeys(path for number in asked for path in showing(number, to_play))))
+        return
     page = [*HEAD.splitlines(), "", *by_command(all_found), *by_folder(all_found), *by_refusal(to_play), *by_promise(to_play)]
     made = {
         RIG / "args": "\n".join(it.path for it in to_play) + "\n",

@@ -1,7 +1,7 @@
 #!/bin/sh
 # Sizes with units, 100%, a group by the first digits of its GUID; and what somebody at a terminal sees: sizes after show, progress.
 #
-#   sizes.sh [PROGRAM]     with another program than the one that is built here
+#   sizes.sh [PROGRAM]     with another program than the one that is built here, which DDF may name too
 set -eu
 LC_ALL=C
 export LC_ALL
@@ -14,8 +14,8 @@ trap 'rm -rf "$work"' EXIT
 if [ $# -gt 0 ]; then
     cp "$1" "$work/ddf"
 else
-    "$top/ddf" --version >/dev/null
-    cp "$top/crates/ddf/out/ddf" "$work/ddf"
+    [ -n "${DDF:-}" ] || "$top/ddf" --version >/dev/null
+    cp "${DDF:-$top/crates/ddf/out/ddf}" "$work/ddf"
 fi
 cd "$work"
 

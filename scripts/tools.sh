@@ -7,7 +7,7 @@ set -eu
 PATH=$PATH:/sbin:/usr/sbin
 top=$(cd "$(dirname "$0")/.." && pwd)
 . "$top/scripts/lacking.sh"
-DDF=$(readlink -f "${1:-$top/ddf}")
+DDF=$(readlink -f "${1:-${DDF:-$top/ddf}}")
 export DDF
 [ "$#" = 0 ] || shift
 parts=${*:-check save try json scan guard dmsetup nbd udev units pages deb}

@@ -1,4 +1,5 @@
-"""The speed of one `read` of a whole array beside cat of the same bytes, of one `write` of it beside dd of as many bytes as reach the disks, and what memory they take: see bench.sh."""
+"""The speed of one `read` of a whole array beside cat of the same bytes, of one `write` of it beside dd of as many bytes as reach the disks, and what
+memory they take: see bench.sh."""
 
 import os
 import sys
