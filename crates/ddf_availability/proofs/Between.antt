@@ -1,139 +1,211 @@
--- Changes that leave each position its disk and its start: what they leave of a position, of a member and of the GUIDs of arrays.
-use Rattle.std.proofs.Common.{◌≡◌, ◌∙◌, ℕ, zero, suc, ◌+◌, Bool, true, false, List, [], ◌∷◌, map, nat_eq, Option, Some, refl, sym, ap, subst, if◌then◌else◌}
-use Rattle.std.proofs.lemmas.Bool.{and_parts, false≢true}
-use Rattle.std.specs.Prelude.{option_map, slice_get}
-use Rattle.std.specs.List.{IsDistinct, enumerate_from, list_all}
+-- Changes and joins that leave a position where it is: what they leave of it, of its disk's member and of the GUIDs of arrays.
+use Rattle.std.proofs.Common.{◌≡◌, ◌∙◌, ℕ, Bool, true, false, not, ◌&&◌, ◌||◌, List, [], ◌∷◌, ◌++◌, nat_eq, Option, Some, None, refl, sym, ap, subst, if◌then◌else◌, arith}
+use Rattle.std.proofs.lemmas.Bool.{false≢true}
+use Rattle.std.proofs.lemmas.List.{append-nil}
+use Rattle.std.specs.List.{IsDistinct}
 use Rattle.std.specs.Map.{keys_of, lookup}
 use Rattle.ddf_config.specs.declared.array.Array.{Array}
-use Rattle.ddf_config.specs.declared.element.Position.{Position}
+use Rattle.ddf_config.specs.declared.extent.Extent.{Extent}
 use Rattle.ddf_config.specs.declared.member.Member.{Member}
+use Rattle.ddf_config.specs.declared.member.SpareUse.{SpareUse}
+use Rattle.ddf_config.specs.declared.member.SpareUse.TheVariants.{No}
 use Rattle.ddf_config.specs.Configuration.{Configuration}
-use Rattle.ddf_config.specs.ElementValue.{ElementValue}
+use Rattle.ddf_config.specs.Entries.{changed_entries}
 use Rattle.ddf_config.specs.Extents.{extents}
-use Rattle.ddf_config.specs.Members.{same_guid}
+use Rattle.ddf_config.specs.Members.{is_current, same_guid}
+use Rattle.ddf_config.specs.States.{array_with_low}
 use Rattle.ddf_plan.specs.declared.change.Change.{Change}
-use Rattle.ddf_plan.specs.declared.change.Change.TheVariants.{Mark, Unmark, Rewind, Progress, Finish}
-use Rattle.ddf_plan.specs.Arrays.{element_after, kept_and_added, named_after, names, part_after, position_after, rebuilding}
+use Rattle.ddf_plan.specs.declared.change.Change.TheVariants.{Lose, Create, Delete, Spare, Fail, Begin, Return}
+use Rattle.ddf_plan.specs.Arrays.{HasNewGuid, arrays_added, kept_and_added, kept_array}
 use Rattle.ddf_plan.specs.Changes.{changed_at}
-use Rattle.ddf_plan.specs.Mark.{without_row, without_rows}
-use Rattle.ddf_plan.specs.Members.{member_after}
-use Rattle.ddf_plan.specs.Rebuild.{finished}
-use Rattle.ddf_plan.specs.Standing.{takes_revertible}
-use Rattle.ddf_repair.specs.Places.{keeps_places}
-use Rattle.ddf_repair.proofs.Usable as usable
-use Rattle.ddf_availability.specs.GoneBack.{IsOnDisk, all_keep_places, behind_all}
-use Rattle.ddf_availability.proofs.Tables.{keys_stay, member_found, numbered_get}
+use Rattle.ddf_plan.specs.Create.{created}
+use Rattle.ddf_plan.specs.Delete.{use_without}
+use Rattle.ddf_plan.specs.Lose.{is_among}
+use Rattle.ddf_plan.specs.Members.{member_after, members_after}
+use Rattle.ddf_plan.specs.Spare.{array_refers, holds_extent, part_refers, position_refers, use_in_order}
+use Rattle.ddf_plan.specs.Standing.{given_back, holds_beside, is_left_by, is_used_beside, stands_in, takes_revertible}
+use Rattle.ddf_import.specs.Clash.{join_cause}
+use Rattle.ddf_import.specs.Joined.{arrays_joined, kept_member, kept_members, members_joined, numbered, numbers_of}
+use Rattle.ddf_import.proofs.Apart.{arrays_fresh}
+use Rattle.ddf_availability.specs.GoneBack.{AllLeavePlace, Between, IsOnDisk, LeavesPlace, behind, behind_all, leaves_disk, leaves_place}
+use Rattle.ddf_availability.specs.GoneBack.Between.{ByChange, ByJoin}
+use Rattle.ddf_availability.proofs.Entries.{any_found, found_front, found_kept, joined_apart, kept_apart, none_kept, one_more}
+use Rattle.ddf_availability.proofs.Given.{and_false, any_at, more_kept}
+use Rattle.ddf_availability.proofs.Leaving.{HasOn, kept_on, not_both, same_both}
+use Rattle.ddf_availability.proofs.Moves.{same_test}
+use Rattle.ddf_availability.proofs.Tables.{member_found}
 
-mapped_get : {X Y : Type 0} (f : X → Y) (k : ℕ) (xs : List X) (x : X) → slice_get xs k ≡ Some x → slice_get (map f xs) k ≡ Some (f x)
-mapped_get f k [] x at = absurd cc
-mapped_get f zero (y ∷ xs) x at = let same : y ≡ x = cc in ap (λ one. Some (f one)) same
-mapped_get f (suc k) (y ∷ xs) x at = mapped_get f k xs x at
+not_so : (b : Bool) → not b ≡ true → b ≡ false
+not_so true is = absurd (false≢true is)
+not_so false is = refl
 
-module _ (element position reference : ℕ) where
-  -- An array has a position on the disk.
-  record HasOn (array : Array) : Type 0 where
-    plan : ElementValue
-    held : Position
-    is_plan : slice_get array.elements element ≡ Some (Some plan)
-    is_held : slice_get plan.positions position ≡ Some held
-    is_there : held.reference ≡ reference
+turned : (a b : ℕ) → nat_eq a b ≡ false → (nat_eq b a || false) ≡ false
+turned a b away = let same : nat_eq b a ≡ false = grind arith in ap (λ (c : Bool). c || false) same
 
-  without_rows_on : (array next : Array) → next.elements ≡ map (option_map without_rows) array.elements → HasOn array → HasOn next
-  without_rows_on array next are on = record {
-    plan = without_rows on.plan;
-    held = without_row on.held;
-    is_plan = ap (λ (l : List (Option ElementValue)). slice_get l element) are ∙ mapped_get (option_map without_rows) element array.elements (Some on.plan) on.is_plan;
-    is_held = mapped_get without_row position on.plan.positions on.held on.is_held;
-    is_there = on.is_there;
-  }
+-- ---- a position on a disk
 
-  rebuilding_on : (change : Change) → ((number : ℕ) (old : Position) → (position_after change number old).reference ≡ old.reference) → (revertible : Bool) (named : ℕ) (array : Array) → HasOn array
-      → HasOn (rebuilding revertible change named array)
-  rebuilding_on change stays revertible named array on = by (nat_eq named (0 + element)) (numbered_get (part_after revertible change named) 0 element array.elements (Some on.plan) on.is_plan)
-    where
-      by : (b : Bool) → slice_get (map (part_after revertible change named) (enumerate_from 0 array.elements)) element ≡ Some (if b then Some (element_after revertible change on.plan) else Some on.plan)
-          → HasOn (rebuilding revertible change named array)
-      by false there = record { plan = on.plan; held = on.held; is_plan = there; is_held = on.is_held; is_there = on.is_there }
-      by true there = record {
-        plan = element_after revertible change on.plan;
-        held = position_after change (0 + position) on.held;
-        is_plan = there;
-        is_held = numbered_get (λ (pair : ℕ × Position). position_after change pair.0 pair.1) 0 position on.plan.positions on.held on.is_held;
-        is_there = stays (0 + position) on.held ∙ on.is_there;
-      }
+abbrev has : {config : Configuration} {guid : List ℕ} {element position reference : ℕ} (on : IsOnDisk config guid element position reference) → HasOn element position reference on.array
+has on = record { plan = on.plan; is_plan = on.is_plan; on = record { held = on.held; is_held = on.is_held; is_there = on.is_there } }
 
-  finished_stays : (named number : ℕ) (old : Position) → (finished named number old).reference ≡ old.reference
-  finished_stays named number old = by (nat_eq named number)
-    where
-      by : (b : Bool) → (if b then record old { synced = true; row = 0 } else old).reference ≡ old.reference
-      by true = refl
-      by false = refl
+is_on : (config : Configuration) (guid : List ℕ) (element position reference : ℕ) (array : Array) → lookup (same_guid guid) config.arrays ≡ Some array → HasOn element position reference array
+    → IsOnDisk config guid element position reference
+is_on config guid element position reference array is own = record {
+  array = array;
+  plan = own.plan;
+  held = own.on.held;
+  is_array = is;
+  is_plan = own.is_plan;
+  is_held = own.on.is_held;
+  is_there = own.on.is_there;
+}
 
-  named_on : (revertible : Bool) (change : Change) → keeps_places change ≡ true → (array : Array) → HasOn array → HasOn (named_after revertible change array)
-  named_on revertible (Mark guid) keeps array on = without_rows_on array (named_after revertible (Mark guid) array) refl on
-  named_on revertible (Unmark guid init) keeps array on = record { plan = on.plan; held = on.held; is_plan = on.is_plan; is_held = on.is_held; is_there = on.is_there }
-  named_on revertible (Rewind guid) keeps array on = without_rows_on array (named_after revertible (Rewind guid) array) refl on
-  named_on revertible (Progress guid named at row) keeps array on = rebuilding_on (Progress guid named at row) (λ number old. refl) revertible named array on
-  named_on revertible (Finish guid named at) keeps array on = rebuilding_on (Finish guid named at) (λ number old. finished_stays at number old) revertible named array on
-  named_on revertible other keeps array on = absurd (false≢true keeps)
+low_on : (element position reference : ℕ) (members : List (ℕ × Member)) (all : List Extent) (array : Array) → HasOn element position reference array → HasOn element position reference (array_with_low members all array)
+low_on element position reference members all array own = record { plan = own.plan; is_plan = own.is_plan; on = own.on }
 
-  module _ (config : Configuration) (change : Change) (keeps : keeps_places change ≡ true) (sequence : ℕ) where
-    abbrev made : List ℕ → Array → Array
-    made = usable.one_after config change (extents (kept_and_added config change))
+-- an array of a table has the position there behind its low states too
+lowered : (guid : List ℕ) (element position reference : ℕ) (members : List (ℕ × Member)) (all : List Extent) (arrays : List (List ℕ × Array)) (array : Array) → lookup (same_guid guid) arrays ≡ Some array
+    → HasOn element position reference array
+    → (next : Array) × (lookup (same_guid guid) (changed_entries (λ key one. Some (array_with_low members all one)) arrays) ≡ Some next) × HasOn element position reference next
+lowered guid element position reference members all arrays array is own =
+    found_kept (λ key one. Some (array_with_low members all one)) (HasOn element position reference) (same_guid guid) arrays array is
+    (λ key same. (array_with_low members all array, refl, low_on element position reference members all array own))
 
-    made_on : (key : List ℕ) (array : Array) → HasOn array → HasOn (made key array)
-    made_on key array on = with_low (by (names change key))
-      where
-        by : (b : Bool) → HasOn (if b then named_after (takes_revertible config change) change array else array)
-        by true = named_on (takes_revertible config change) change keeps array on
-        by false = on
+-- its disk holds an extent
+refers : (config : Configuration) (guid : List ℕ) (element position reference : ℕ) (on : IsOnDisk config guid element position reference) → array_refers reference on.array ≡ true
+refers config guid element position reference on =
+    any_at (part_refers reference) on.array.elements element (Some on.plan) on.is_plan
+    (any_at (position_refers reference) on.plan.positions position on.held on.is_held (same_test on.held.reference reference on.is_there))
 
-        with_low : HasOn (if names change key then named_after (takes_revertible config change) change array else array) → HasOn (made key array)
-        with_low one = record { plan = one.plan; held = one.held; is_plan = one.is_plan; is_held = one.is_held; is_there = one.is_there }
+holds : (config : Configuration) (guid : List ℕ) (element position reference : ℕ) → IsOnDisk config guid element position reference → holds_extent config reference ≡ true
+holds config guid element position reference on =
+    any_found (λ (entry : List ℕ × Array). array_refers reference entry.1) (same_guid guid) config.arrays on.array on.is_array (λ key own. refers config guid element position reference on)
 
-    pub still_on : (guid : List ℕ) → IsOnDisk config guid element position reference → IsOnDisk (changed_at config change sequence) guid element position reference
-    still_on guid on =
-        let at = usable.looked_up made (same_guid guid) config.arrays on.array on.is_array in
-        let own = made_on at.0 on.array (record { plan = on.plan; held = on.held; is_plan = on.is_plan; is_held = on.is_held; is_there = on.is_there }) in
-        record {
-          array = made at.0 on.array;
-          plan = own.plan;
-          held = own.held;
-          is_array = ap (lookup (same_guid guid)) (usable.table_is config change keeps) ∙ at.2;
-          is_plan = own.is_plan;
-          is_held = own.is_held;
-          is_there = own.is_there;
-        }
+-- ---- a change
 
-still_distinct : (config : Configuration) (change : Change) → keeps_places change ≡ true → (sequence : ℕ) → IsDistinct same_guid (keys_of config.arrays) → IsDistinct same_guid (keys_of (changed_at config change sequence).arrays)
-still_distinct config change keeps sequence apart =
-    subst (λ (keys : List (List ℕ)). IsDistinct same_guid keys)
-    (sym (ap (λ (es : List (List ℕ × Array)). keys_of es) (usable.table_is config change keeps) ∙ keys_stay (usable.one_after config change (extents (kept_and_added config change))) config.arrays)) apart
+new_kept : (f : List ℕ → Array → Option Array) (arrays : List (List ℕ × Array)) (change : Change) → HasNewGuid arrays change → HasNewGuid (changed_entries f arrays) change
+new_kept f arrays (Create guid array) is = none_kept f (same_guid guid) arrays is
+new_kept f arrays other is = tt
 
--- a member is as it was
-member_same : (config : Configuration) (change : Change) → keeps_places change ≡ true → (reference : ℕ) (member : Member) → member_after config change reference member ≡ member
-member_same config (Mark guid) keeps reference member = refl
-member_same config (Unmark guid init) keeps reference member = refl
-member_same config (Rewind guid) keeps reference member = refl
-member_same config (Progress guid named at row) keeps reference member = refl
-member_same config (Finish guid named at) keeps reference member = refl
-member_same config other keeps reference member = absurd (false≢true keeps)
+added_apart : (config : Configuration) (arrays : List (List ℕ × Array)) (change : Change) → HasNewGuid arrays change → IsDistinct same_guid (keys_of arrays)
+    → IsDistinct same_guid (keys_of (arrays ++ arrays_added config change))
+added_apart config arrays (Create guid array) is apart = one_more arrays guid (created config.members (extents config.arrays) array) apart is
+added_apart config arrays other is apart = subst (λ (es : List (List ℕ × Array)). IsDistinct same_guid (keys_of es)) (sym (append-nil arrays)) apart
+
+module _ (config : Configuration) (guid : List ℕ) (element position reference : ℕ) (on : IsOnDisk config guid element position reference) where
+  module _ (change : Change) (sequence : ℕ) (leaves : leaves_place guid element position change ≡ true) where
+    abbrev kept : List ℕ → Array → Option Array
+    kept = kept_array (takes_revertible config change) (members_after config change) change
+
+    still_on : IsOnDisk (changed_at config change sequence) guid element position reference
+    still_on =
+        let first = found_kept kept (HasOn element position reference) (same_guid guid) config.arrays on.array on.is_array
+        (λ key own. kept_on element position reference guid key own (takes_revertible config change) (members_after config change) change leaves on.array (has on)) in
+        let next = lowered guid element position reference (members_after config change) (extents (kept_and_added config change)) (kept_and_added config change) first.0
+        (found_front (same_guid guid) (changed_entries kept config.arrays) (arrays_added config change) first.0 first.1) first.2 in
+        is_on (changed_at config change sequence) guid element position reference next.0 next.1 next.2
+
+    still_apart : HasNewGuid config.arrays change → IsDistinct same_guid (keys_of config.arrays) → IsDistinct same_guid (keys_of (changed_at config change sequence).arrays)
+    still_apart is apart =
+        kept_apart same_guid (λ key one. Some (array_with_low (members_after config change) (extents (kept_and_added config change)) one)) (kept_and_added config change)
+        (added_apart config (changed_entries kept config.arrays) change (new_kept kept config.arrays change is) (kept_apart same_guid kept config.arrays apart))
+
+  -- ---- the disk's member
+
+  module _ (apart : IsDistinct same_guid (keys_of config.arrays)) (member : Member) (there : lookup (nat_eq reference) config.members ≡ Some member) (no_spare : member.spare ≡ No) where
+    -- another array is deleted: this one has the position on the disk
+    used_beside : (gone : List ℕ) → not (same_guid gone guid) ≡ true → holds_beside config gone reference ≡ true
+    used_beside gone leaves =
+        any_found (is_used_beside gone reference) (same_guid guid) config.arrays on.array on.is_array
+        (λ key own.
+        ap (λ (b : Bool). not b && array_refers reference on.array) (not_both (same_guid gone key) (same_guid gone guid) leaves (same_both gone guid key own))
+        ∙ refers config guid element position reference on)
+
+    spare_same : (use_as : SpareUse) → use_as ≡ member.spare → ◌≡◌ {A = Member} (record member { spare = use_as }) member
+    spare_same use_as same = ap (λ (one : SpareUse). record member { spare = one }) same
+
+    missing_same : (lost : Bool) → lost ≡ false → ◌≡◌ {A = Member} (record member { missing = lost || member.missing }) member
+    missing_same lost none = ap (λ (b : Bool). record member { missing = b || member.missing }) none
+
+    none_given : (gone : List ℕ) (gives : Bool) → gives ≡ false → use_without gone (given_back gives member.spare) ≡ member.spare
+    none_given gone gives none =
+        ap (λ (b : Bool). use_without gone (given_back b member.spare)) none
+        ∙ ap (λ (one : SpareUse). use_without gone (given_back false one)) no_spare ∙ sym no_spare
+
+    no_use : (b : Bool) → (if b then No else member.spare) ≡ member.spare
+    no_use true = sym no_spare
+    no_use false = refl
+
+    found_same : (change : Change) → member_after config change reference member ≡ member → lookup (nat_eq reference) (members_after config change) ≡ Some member
+    found_same change same = member_found config change reference member there ∙ ap (λ (one : Member). Some one) same
+
+    still_there : (change : Change) (sequence : ℕ) → leaves_place guid element position change ≡ true → leaves_disk reference change ≡ true → lookup (nat_eq reference) (members_after config change) ≡ Some member
+    still_there (Lose references) sequence leaves left = found_same (Lose references) (missing_same (is_among references reference) (not_so (is_among references reference) left))
+    still_there (Fail failed) sequence leaves left =
+        found_same (Fail failed) (missing_same (is_among (failed ∷ []) reference) (turned failed reference (not_so (nat_eq failed reference) left)))
+    still_there (Spare spare next) sequence leaves left =
+        found_same (Spare spare next)
+        (spare_same (if nat_eq spare reference then use_in_order config.arrays next else member.spare)
+        (ap (λ (b : Bool). if b then use_in_order config.arrays next else member.spare) (not_so (nat_eq spare reference) left)))
+    still_there (Delete gone) sequence leaves left =
+        found_same (Delete gone)
+        (spare_same (use_without gone (given_back (is_left_by config gone reference) member.spare))
+        (none_given gone (is_left_by config gone reference)
+        (ap (λ (b : Bool). is_current config.members reference && stands_in config gone reference && not b) (used_beside gone leaves)
+        ∙ and_false (is_current config.members reference && stands_in config gone reference))))
+    still_there (Begin named at one disk start) sequence leaves left =
+        found_same (Begin named at one disk start) (spare_same (if nat_eq disk reference then No else member.spare) (no_use (nat_eq disk reference)))
+    still_there (Return named at one disk start) sequence leaves left =
+        more_kept config named at one disk start sequence reference member there apart
+        (holds (changed_at config (Return named at one disk start) sequence) guid element position reference (still_on (Return named at one disk start) sequence leaves))
+    still_there other sequence leaves left = found_same other refl
+
+-- ---- a join
+
+module _ (config joining : Configuration) (sequence : ℕ) (guid : List ℕ) (element position reference : ℕ) where
+  abbrev all : List Extent
+  all = extents (arrays_joined config joining)
+
+  also_on : IsOnDisk config guid element position reference → IsOnDisk (behind config (ByJoin joining sequence)) guid element position reference
+  also_on on =
+      let next = lowered guid element position reference (members_joined config joining) all (arrays_joined config joining) on.array
+      (found_front (same_guid guid) config.arrays (numbered (numbers_of config.arrays) joining.arrays) on.array on.is_array) (has on) in
+      is_on (behind config (ByJoin joining sequence)) guid element position reference next.0 next.1 next.2
+
+  also_apart : join_cause config joining ≡ None → IsDistinct same_guid (keys_of joining.arrays) → IsDistinct same_guid (keys_of config.arrays)
+      → IsDistinct same_guid (keys_of (behind config (ByJoin joining sequence)).arrays)
+  also_apart free own apart =
+      kept_apart same_guid (λ key one. Some (array_with_low (members_joined config joining) all one)) (arrays_joined config joining)
+      (joined_apart (numbers_of config.arrays) joining.arrays config.arrays apart own (arrays_fresh config joining free))
+
+  also_there : (member : Member) → lookup (nat_eq reference) config.members ≡ Some member → member.missing ≡ false → lookup (nat_eq reference) (members_joined config joining) ≡ Some member
+  also_there member there here =
+      let found = found_kept (kept_member config) (λ (one : Member). one ≡ member) (nat_eq reference) config.members member there
+      (λ key own. (member, ap (λ (b : Bool). if not b || holds_extent config key then Some member else None) here, refl)) in
+      found_front (nat_eq reference) (kept_members config) joining.members member (found.1 ∙ ap (λ (one : Member). Some one) found.2)
 
 -- ---- several
 
--- What a copyback asks of a configuration stays behind such changes.
+-- What a copyback asks of a configuration stays behind them.
 pub record IsStanding (config : Configuration) (guid : List ℕ) (element position reference : ℕ) (member : Member) : Type 0 where
   pub apart : IsDistinct same_guid (keys_of config.arrays)
   pub on : IsOnDisk config guid element position reference
   pub there : lookup (nat_eq reference) config.members ≡ Some member
 
-pub still_standing : (guid : List ℕ) (element position reference : ℕ) (member : Member) (steps : List (Change × ℕ)) (config : Configuration) → all_keep_places steps ≡ true → IsStanding config guid element position reference member
-    → IsStanding (behind_all config steps) guid element position reference member
-still_standing guid element position reference member [] config keep standing = standing
-still_standing guid element position reference member (step ∷ steps) config keep standing =
-    let parts = and_parts (keeps_places step.0) (list_all (λ (one : Change × ℕ). keeps_places one.0) steps) keep in
-    still_standing guid element position reference member steps (changed_at config step.0 step.1) parts.1 (record {
-      apart = still_distinct config step.0 parts.0 step.1 standing.apart;
-      on = still_on element position reference config step.0 parts.0 step.1 guid standing.on;
-      there = member_found config step.0 reference member standing.there ∙ ap (λ (one : Member). Some one) (member_same config step.0 parts.0 reference member);
-    })
+module _ (guid : List ℕ) (element position reference : ℕ) (member : Member) (here : member.missing ≡ false) (no_spare : member.spare ≡ No) where
+  one_standing : (step : Between) (config : Configuration) → LeavesPlace guid element position reference config step → IsStanding config guid element position reference member
+      → IsStanding (behind config step) guid element position reference member
+  one_standing (ByChange change sequence) config leaves standing = record {
+    apart = still_apart config guid element position reference standing.on change sequence leaves.0 leaves.2 standing.apart;
+    on = still_on config guid element position reference standing.on change sequence leaves.0;
+    there = still_there config guid element position reference standing.on standing.apart member standing.there no_spare change sequence leaves.0 leaves.1;
+  }
+  one_standing (ByJoin joining sequence) config leaves standing = record {
+    apart = also_apart config joining sequence guid element position reference leaves.0 leaves.1 standing.apart;
+    on = also_on config joining sequence guid element position reference standing.on;
+    there = also_there config joining sequence guid element position reference member standing.there here;
+  }
+
+  pub still_standing : (steps : List Between) (config : Configuration) → AllLeavePlace guid element position reference config steps → IsStanding config guid element position reference member
+      → IsStanding (behind_all config steps) guid element position reference member
+  still_standing [] config leave standing = standing
+  still_standing (step ∷ steps) config leave standing = still_standing steps (behind config step) leave.1 (one_standing step config leave.0 standing)

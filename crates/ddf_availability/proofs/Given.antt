@@ -35,7 +35,7 @@ not_true : (b : Bool) → b ≡ true → not b ≡ false
 not_true true is = refl
 not_true false is = absurd (false≢true is)
 
-and_false : (b : Bool) → (b && false) ≡ false
+pub and_false : (b : Bool) → (b && false) ≡ false
 and_false true = refl
 and_false false = refl
 
@@ -180,7 +180,7 @@ module _ (config : Configuration) (guid : List ℕ) (element position disk start
 
 -- ---- its array is no more
 
-any_at : {X : Type 0} (p : X → Bool) (xs : List X) (k : ℕ) (x : X) → slice_get xs k ≡ Some x → p x ≡ true → list_any p xs ≡ true
+pub any_at : {X : Type 0} (p : X → Bool) (xs : List X) (k : ℕ) (x : X) → slice_get xs k ≡ Some x → p x ≡ true → list_any p xs ≡ true
 any_at p [] k x at is = absurd cc
 any_at p (y ∷ xs) zero x at is =
     let same : y ≡ x = cc in

@@ -9,6 +9,8 @@ mod Usable
 mod Tables
 mod Levels
 mod Given
+mod Entries
+mod Leaving
 mod Between
 mod Stood
 mod Twice

@@ -16,7 +16,6 @@ use Rattle.ddf_config.specs.ElementValue.{ElementValue}
 use Rattle.ddf_config.specs.Members.{is_current, same_guid}
 use Rattle.ddf_config.specs.Refusals.{first_refusal, refuse_if}
 use Rattle.ddf_config.specs.Seats.{slot_of}
-use Rattle.ddf_plan.specs.declared.change.Change.{Change}
 use Rattle.ddf_plan.specs.declared.change.Change.TheVariants.{Begin, Return}
 use Rattle.ddf_plan.specs.Causes.{causes}
 use Rattle.ddf_plan.specs.Changes.{changed_at}
@@ -24,7 +23,7 @@ use Rattle.ddf_plan.specs.Members.{member_after, members_after}
 use Rattle.ddf_plan.specs.Rebuild.{element_at, has_position, part_has}
 use Rattle.ddf_plan.specs.Refusals.{no_array, not_current}
 use Rattle.ddf_plan.specs.Spare.{holds_extent}
-use Rattle.ddf_availability.specs.GoneBack.{IsOnDisk, all_keep_places, behind_all}
+use Rattle.ddf_availability.specs.GoneBack.{AllLeavePlace, Between, IsOnDisk, behind_all}
 use Rattle.ddf_availability.proofs.Between.{still_standing}
 use Rattle.ddf_availability.proofs.Given.{given_again}
 use Rattle.ddf_availability.proofs.Moves.{same_test}
@@ -91,18 +90,19 @@ module _ (config : Configuration) (guid : List ℕ) (element position : ℕ) whe
     no_spare true use_as is = refl
     no_spare false use_as is = absurd (false≢true is)
 
-    pub same_again : (steps : List (Change × ℕ)) (disk back first second : ℕ) (member : Member) → all_keep_places steps ≡ true → IsDistinct same_guid (keys_of config.arrays)
+    pub same_again : (steps : List Between) (disk back first second : ℕ) (member : Member)
+        → AllLeavePlace guid element position reference (changed_at config (Begin guid element position reference start) first) steps → IsDistinct same_guid (keys_of config.arrays)
         → lookup (nat_eq reference) config.members ≡ Some member → member.spare ≡ Revertible
         → holds_extent (changed_at (behind_all (changed_at config (Begin guid element position reference start) first) steps) (Return guid element position disk back) second) reference ≡ false
         → lookup (nat_eq reference) (members_after (behind_all (changed_at config (Begin guid element position reference start) first) steps) (Return guid element position disk back)) ≡ Some member
     same_again steps disk back first second member keep apart there is_revertible none =
         let begun = changed_at config (Begin guid element position reference start) first in
         let own = member_after config (Begin guid element position reference start) reference member in
-        let standing = still_standing guid element position reference own steps begun keep (record {
+        let none_yet : own.spare ≡ No = no_spare (nat_eq reference reference) member.spare (same_test reference reference refl) in
+        let standing = still_standing guid element position reference own (here member there) none_yet steps begun keep (record {
           apart = begun_distinct config guid element position reference start first apart;
           on = on_begun config guid element position on.0 reference start first on.1;
           there = member_found config (Begin guid element position reference start) reference member there;
         }) in
-        given_again (behind_all begun steps) guid element position disk back second reference own standing.there standing.apart (here member there)
-        (no_spare (nat_eq reference reference) member.spare (same_test reference reference refl)) standing.on none
+        given_again (behind_all begun steps) guid element position disk back second reference own standing.there standing.apart (here member there) none_yet standing.on none
         ∙ ap (λ (use_as : SpareUse). Some (record member { spare = use_as })) (sym is_revertible)

@@ -1,7 +1,7 @@
 -- Which disks hold positions of arrays and stand in there, and what becomes of them.
-use Rattle.std.specs.Prelude.{◌≡◌, ℕ, Bool, true, List, [], ◌∷◌, Some, slice_get}
-use Rattle.std.specs.Map.{lookup}
-use Rattle.std.specs.List.{list_all}
+use Rattle.std.specs.Prelude.{◌≡◌, ℕ, Bool, true, not, ◌&&◌, List, [], ◌∷◌, None, Some, slice_get, nat_eq}
+use Rattle.std.specs.Map.{keys_of, lookup}
+use Rattle.std.specs.List.{IsDistinct}
 use Rattle.ddf_config.specs.declared.array.Array.{Array}
 use Rattle.ddf_config.specs.declared.element.Position.{Position}
 use Rattle.ddf_config.specs.declared.member.Member.{Member}
@@ -12,9 +12,13 @@ use Rattle.ddf_config.specs.ElementValue.{ElementValue}
 use Rattle.ddf_config.specs.Members.{is_current, same_guid}
 use Rattle.ddf_config.specs.Seats.{floor_of, slot_of}
 use Rattle.ddf_plan.specs.declared.change.Change.{Change}
+use Rattle.ddf_plan.specs.declared.change.Change.TheVariants.{Lose, Delete, Spare, Fail, Begin, Return}
+use Rattle.ddf_plan.specs.Arrays.{HasNewGuid}
 use Rattle.ddf_plan.specs.Changes.{changed_at}
 use Rattle.ddf_plan.specs.Delete.{use_without}
-use Rattle.ddf_repair.specs.Places.{keeps_places}
+use Rattle.ddf_plan.specs.Lose.{is_among}
+use Rattle.ddf_import.specs.Clash.{join_cause}
+use Rattle.ddf_import.specs.Joined.{joined}
 use Rattle.ddf_array.specs.Viewing.{place_of}
 
 -- ---- positions on disks
@@ -56,13 +60,46 @@ as_revertible member = record member { spare = Revertible }
 abbrev pub as_spare_without : List ℕ → Member → Member
 as_spare_without guid member = record member { spare = use_without guid member.spare }
 
--- ---- several changes
+-- ---- what comes in between
 
--- the configuration behind changes, one after the other, each with the sequence number that it is given
-abbrev pub behind_all : Configuration → List (Change × ℕ) → Configuration
+-- A change leaves a position of an array where it is: its rebuild doesn't begin, it doesn't go to another disk, and its array isn't deleted.
+abbrev pub leaves_place : List ℕ → (element position : ℕ) → Change → Bool
+leaves_place guid element position (Begin named at one disk start) = not (same_guid named guid && nat_eq at element && nat_eq one position)
+leaves_place guid element position (Return named at one disk start) = not (same_guid named guid && nat_eq at element && nat_eq one position)
+leaves_place guid element position (Delete gone) = not (same_guid gone guid)
+leaves_place guid element position other = true
+
+-- It leaves a disk a current member, and gives it no use as a spare.
+abbrev pub leaves_disk : ℕ → Change → Bool
+leaves_disk reference (Lose references) = not (is_among references reference)
+leaves_disk reference (Fail failed) = not (nat_eq failed reference)
+leaves_disk reference (Spare spare next) = not (nat_eq spare reference)
+leaves_disk reference other = true
+
+-- what comes to a configuration: a change, or the disks and arrays of another group, each at the sequence number that it is given
+pub data Between : Type 0 where
+  ByChange : Change → ℕ → Between
+  ByJoin : Configuration → ℕ → Between
+
+-- the configuration behind it
+abbrev pub behind : Configuration → Between → Configuration
+behind config (ByChange change sequence) = changed_at config change sequence
+behind config (ByJoin joining sequence) = record (joined config joining) { sequence = sequence }
+
+-- and behind several, one after the other
+abbrev pub behind_all : Configuration → List Between → Configuration
 behind_all config [] = config
-behind_all config (step ∷ steps) = behind_all (changed_at config step.0 step.1) steps
+behind_all config (step ∷ steps) = behind_all (behind config step) steps
 
--- each of them leaves each position its disk and its start
-abbrev pub all_keep_places : List (Change × ℕ) → Bool
-all_keep_places steps = list_all (λ (step : Change × ℕ). keeps_places step.0) steps
+-- It leaves a position where it is, and its disk a member. The GUID of an array that is created is new, and so are those of the arrays of a group that joins: the join isn't
+-- refused, and no two arrays of that group have the same one.
+abbrev pub LeavesPlace : List ℕ → (element position reference : ℕ) → Configuration → Between → Type 0
+LeavesPlace guid element position reference config (ByChange change sequence) =
+    (leaves_place guid element position change ≡ true) × (leaves_disk reference change ≡ true) × HasNewGuid config.arrays change
+LeavesPlace guid element position reference config (ByJoin joining sequence) = (join_cause config joining ≡ None) × IsDistinct same_guid (keys_of joining.arrays)
+
+-- each of several does, where it comes
+abbrev pub AllLeavePlace : List ℕ → (element position reference : ℕ) → Configuration → List Between → Type 0
+AllLeavePlace guid element position reference config [] = Unit {0}
+AllLeavePlace guid element position reference config (step ∷ steps) =
+    LeavesPlace guid element position reference config step × AllLeavePlace guid element position reference (behind config step) steps

@@ -12,7 +12,6 @@ ghost use Rattle.ddf_config.specs.Extents.{array_extents, extents};
 ghost use Rattle.ddf_config.specs.Members.{is_spare, same_guid};
 ghost use Rattle.ddf_config.specs.States.{low_state};
 ghost use Rattle.ddf_config.specs.Unusable.{unusable};
-ghost use Rattle.ddf_plan.specs.declared.change.Change.{Change};
 ghost use Rattle.ddf_plan.specs.declared.change.Change.TheVariants.{Begin, Delete, Return};
 ghost use Rattle.ddf_plan.specs.Causes.{causes};
 ghost use Rattle.ddf_plan.specs.Changes.{changed_at};
@@ -21,7 +20,7 @@ ghost use Rattle.ddf_plan.specs.Spare.{holds_extent};
 ghost use Rattle.ddf_repair.specs.declared.first.Target.{Target};
 ghost use Rattle.ddf_repair.specs.Choose.{chosen, room_for};
 ghost use Rattle.ddf_array.specs.Viewing.{is_array_within};
-ghost use Rattle.ddf_availability.specs.GoneBack.{AreSeatsOf, IsAvailableOn, IsOnDisk, StandsInAt, all_keep_places, as_revertible, as_spare_without, behind_all};
+ghost use Rattle.ddf_availability.specs.GoneBack.{AllLeavePlace, AreSeatsOf, Between, IsAvailableOn, IsOnDisk, StandsInAt, as_revertible, as_spare_without, behind_all};
 
 /// A disk that gives its place back is a revertible spare again: it isn't missing, is no spare, the position that goes to another disk was on it, and behind the change none of
 /// any array is. Where one of these doesn't hold its member is as it was, and so is that of every other disk. That it isn't missing and holds the position follows from the
@@ -69,12 +68,15 @@ pub fn a_disk_that_stood_in_at_a_deleted_array_is_a_spare_again()
 {}
 
 /// A revertible spare onto which the rebuild of a position begins is the spare that it was once the position has gone to another disk, where it holds no other position then,
-/// with any changes in between that leave each position its disk: the progress and the end of that rebuild, and marks that are set and cleared. That the change by which it
-/// begins is refused for nothing but its sequence number is a law of `begin`.
+/// with anything in between that leaves that position on it, and it a member: other changes of the group, as marks, the progress and the end of that rebuild, other positions'
+/// rebuilds and returns, other disks' losses and uses as spares, and arrays that are created and deleted, and other groups that join. That a disk on which a position is gets no
+/// use as a spare is what `spare` asks for; that a created array's GUID is new is asked of `create`. That the change by which the rebuild begins is refused for nothing but its
+/// sequence number is a law of `begin`.
 // promise:returned
 pub fn a_spare_that_stood_in_is_as_it_was()
-    ensures { (config : Configuration) (guid : List ℕ) (seats : List Seat) (element position reference start : ℕ) (steps : List (Change × ℕ)) (disk back first second : ℕ) (member : Member)
-        → IsDistinct same_guid (keys_of config.arrays) → causes None config (Begin guid element position reference start) seats ≡ None → all_keep_places steps ≡ true
+    ensures { (config : Configuration) (guid : List ℕ) (seats : List Seat) (element position reference start : ℕ) (steps : List Between) (disk back first second : ℕ) (member : Member)
+        → IsDistinct same_guid (keys_of config.arrays) → causes None config (Begin guid element position reference start) seats ≡ None
+        → AllLeavePlace guid element position reference (changed_at config (Begin guid element position reference start) first) steps
         → lookup (nat_eq reference) config.members ≡ Some member → member.spare ≡ Revertible
         → holds_extent (changed_at (behind_all (changed_at config (Begin guid element position reference start) first) steps) (Return guid element position disk back) second) reference ≡ false
         → lookup (nat_eq reference) (changed_at (behind_all (changed_at config (Begin guid element position reference start) first) steps) (Return guid element position disk back) second).members
