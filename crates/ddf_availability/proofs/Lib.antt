@@ -2,6 +2,8 @@ mod FewStretches
 mod Accepted
 mod Giving
 mod Unfailing
+mod FewWrites
+mod WriteCounted
 mod Moves
 mod Counted
 mod Chosen

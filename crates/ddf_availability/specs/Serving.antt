@@ -9,6 +9,7 @@ use Rattle.ddf_config.specs.States.{is_marked}
 use Rattle.ddf_array.specs.Viewing.{is_array_within, view_of}
 use Rattle.ddf_array.specs.Volume.{Volume}
 use Rattle.ddf_read.specs.Given.{AreValues}
+use Rattle.ddf_cells.specs.CellsOn.{over_array}
 use Rattle.ddf_pieces.specs.Pieces.{bytes_of}
 use Rattle.ddf_request.specs.Named.{named_array}
 use Rattle.ddf_request.specs.Usable.{bad_blocks, is_held}
@@ -17,6 +18,7 @@ use Rattle.ddf_answer.specs.Call.{Answer}
 use Rattle.ddf_answer.specs.Tells.{EndedWith}
 use Rattle.ddf_read_commands.specs.Read.{Outcome}
 use Rattle.ddf_read_commands.specs.Read.Outcome.{CutShort, NotRead, Stopped, Whole}
+use Rattle.ddf_write_commands.specs.Write.{most_beside}
 
 -- The word names an array that has a view over these seats, so that it can be used as it is recorded. So many blocks from a number on are within its capacity. None of its disks
 -- lists bad blocks, and its state and its access bits don't forbid its use. It is within its level by the seats, and isn't marked.
@@ -49,3 +51,12 @@ pub record IsToldAll (image : Image) (volume : Volume) (start count : ℕ) (answ
 -- and one for each block.
 abbrev pub most_reads : (slots count : ℕ) → ℕ
 most_reads slots count = 15 * slots + count
+
+-- how many positions the elements of an array have
+abbrev pub positions_of : Volume → ℕ
+positions_of volume = over_array (λ element position. 1) volume.parts
+
+-- The most calls that a write of so many blocks makes of a bay of so many slots, where no element of the array keeps parity: 92 for each slot, which find the group and write what
+-- stands around the blocks, and one for each block on each position of the array.
+abbrev pub most_writes : (slots positions count : ℕ) → ℕ
+most_writes slots positions count = most_beside slots + positions * count

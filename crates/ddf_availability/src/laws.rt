@@ -1,5 +1,5 @@
 //! Laws of availability: functions that do nothing, whose contracts are the laws. docs/PROOF.md#proved
-ghost use Rattle.std.specs.Prelude.{◌≡◌, ◌⊎◌, ℕ, ◌+◌, ◌-◌, ◌^◌, ◌<◌, ◌≤◌, List, Option, None, Ok, length};
+ghost use Rattle.std.specs.Prelude.{◌≡◌, ◌⊎◌, ℕ, ◌+◌, ◌-◌, ◌^◌, ◌<◌, ◌≤◌, List, Option, None, Ok, false, length};
 ghost use Rattle.ddf_bytes.specs.Streams.{SinkState};
 ghost use Rattle.ddf_bay.specs.Memory.{disks_of};
 ghost use Rattle.ddf_bay.specs.declared.memory.MemoryBay.{MemoryBay};
@@ -7,16 +7,20 @@ ghost use Rattle.ddf_config.specs.declared.seat.Seat.{Seat};
 ghost use Rattle.ddf_config.specs.Configuration.{Configuration};
 ghost use Rattle.ddf_read.specs.Reading.{NoneFailed};
 ghost use Rattle.ddf_read.specs.Stretches.{HaveCopies};
+ghost use Rattle.ddf_write.specs.RowWrites.{keeps_parity_anywhere};
 ghost use Rattle.ddf_seats.specs.Group.{GroupValue};
 ghost use Rattle.ddf_assembly.specs.Group.{group_of};
 ghost use Rattle.ddf_recovery.specs.Recovery.{trusted_seats};
 ghost use Rattle.ddf_request.specs.Named.{named_array};
-ghost use Rattle.ddf_answer.specs.Call.{answer_of, work_of};
+ghost use Rattle.ddf_answer.specs.Call.{answer_of, input_of, work_of};
 ghost use Rattle.ddf_read_commands.specs.Read.{HasRead, IsReadDone, Outcome, read_refusal};
+ghost use Rattle.ddf_write_commands.specs.Planned.{IsPlanned};
+ghost use Rattle.ddf_write_commands.specs.Write as writes;
 ghost use Rattle.ddf_history_memory.specs.Histories.{GoesWell};
-ghost use Rattle.ddf_availability.specs.Serving.{GivesBlocks, IsServing, IsToldAll, most_reads};
+ghost use Rattle.ddf_availability.specs.Serving.{GivesBlocks, IsServing, IsToldAll, most_reads, most_writes, positions_of};
 
 use ddf_bay::Bay;
+use ddf_bytes::Source;
 
 /// Nothing refuses a read of blocks of an array that its disks serve: as it is recorded it can be used, the blocks lie within its capacity, none of its disks lists bad blocks, its
 /// state forbids nothing, it is within its level by the seats, and it isn't marked.
@@ -57,4 +61,22 @@ pub fn a_read_over_disks_in_memory_is_counted()
         → (serving : IsServing found.config (trusted_seats found) word start count) → HaveCopies serving.volume start count
         → (disks_of old).calls + most_reads (length (disks_of old).sizes) count < 2 ^ 64 - 1 → (disks_of old).moment + most_reads (length (disks_of old).sizes) count < 2 ^ 64 - 1
         → (disks_of exit).tells_left }
+{}
+
+/// A write to an array of which no element keeps parity makes at most 92 calls on each slot, and one for each block on each position of the array, however it ends: 15 look at a
+/// slot, and the others write what stands around the blocks, the recovery of the group among them.
+pub fn a_write_without_parity_is_counted<B: Bay, S: Source>()
+    ensures { (old new : B) (source_old source_new : S) (named : Option (List ℕ)) (timestamp : ℕ) (word : List ℕ) (start count : ℕ) (outcome : writes.Outcome)
+        → (written : writes.HasWrittenArray (work_of B.tells (B.disks old) (B.disks new)) (input_of S.tells (S.input source_old) (S.input source_new)) named timestamp word start count outcome) → (found : GroupValue)
+        → group_of written.taken.newest named ≡ Ok found → (plan : IsPlanned found timestamp word (writes.write_request word start count)) → keeps_parity_anywhere plan.volume ≡ false
+        → (B.disks new).calls ≤ (B.disks old).calls + most_writes (length (B.disks old).sizes) (positions_of plan.volume) count }
+{}
+
+/// So a bay in memory still tells behind such a write what a stop may leave, while its clock and its count of calls have room for so many.
+pub fn a_write_over_disks_in_memory_is_counted<S: Source>()
+    ensures { (old exit : MemoryBay) → GoesWell old exit → (source_old source_new : S) (named : Option (List ℕ)) (timestamp : ℕ) (word : List ℕ) (start count : ℕ) (outcome : writes.Outcome)
+        → (written : writes.HasWrittenArray (work_of (Unit {0}) (disks_of old) (disks_of exit)) (input_of S.tells (S.input source_old) (S.input source_new)) named timestamp word start count outcome) → (found : GroupValue)
+        → group_of written.taken.newest named ≡ Ok found → (plan : IsPlanned found timestamp word (writes.write_request word start count)) → keeps_parity_anywhere plan.volume ≡ false
+        → (disks_of old).calls + most_writes (length (disks_of old).sizes) (positions_of plan.volume) count < 2 ^ 64 - 1
+        → (disks_of old).moment + most_writes (length (disks_of old).sizes) (positions_of plan.volume) count < 2 ^ 64 - 1 → (disks_of exit).tells_left }
 {}

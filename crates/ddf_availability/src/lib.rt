@@ -13,5 +13,6 @@ pub use copyback::{
 pub use laws::{
     a_read_of_an_array_that_is_served_gives_its_blocks,
     a_read_of_an_array_that_is_served_is_not_refused, a_read_over_disks_in_memory_gives_its_blocks,
-    a_read_over_disks_in_memory_is_counted,
+    a_read_over_disks_in_memory_is_counted, a_write_over_disks_in_memory_is_counted,
+    a_write_without_parity_is_counted,
 };

@@ -1,5 +1,5 @@
 -- How a call of the program ends.
-use Rattle.std.proofs.Common.{◌≡◌, ◌⊎◌, inl, inr, ⊎_elim, ℕ, ◌*◌, List, [], ◌++◌, length, replicate, false, Option, Result, Ok, Err, refl, sym, subst, arith}
+use Rattle.std.proofs.Common.{◌≡◌, ◌⊎◌, inl, inr, ⊎_elim, ℕ, ◌+◌, ◌*◌, ◌≤◌, List, [], ◌++◌, length, replicate, false, Option, Result, Ok, Err, refl, sym, subst, arith}
 use Rattle.std.specs.Prelude.{IsTrue}
 use Rattle.std.proofs.lemmas.Bool.{cases_lt}
 use Rattle.std.proofs.lemmas.List.{append-nil, length-replicate}
@@ -41,7 +41,7 @@ use Rattle.ddf_import_command.proofs.Ending.{imported_nothing}
 use Rattle.ddf_read_commands.proofs.LeftOut.{has_no_place}
 use Rattle.ddf_read_commands.proofs.ReadBlocks.{memory_in}
 use Rattle.ddf_read_commands.proofs.Scrubbed.{scrubbed_nothing}
-use Rattle.ddf_read_commands.specs.Read.{CallsOfReading, NotRead}
+use Rattle.ddf_read_commands.specs.Read.{most_looks, CallsOfReading, NotRead}
 use Rattle.ddf_write_commands.specs.Doing.{Doing}
 use Rattle.ddf_write_commands.specs.Resync.{IsResyncDone, resync_request, resyncing}
 use Rattle.ddf_write_commands.specs.Worked.{IsWorkedIn}
@@ -53,7 +53,7 @@ use Rattle.ddf_rebuild_command.specs.GoingBack.{copyback_request}
 use Rattle.ddf_rebuild_command.specs.Rebuilt.{IsRebuildDone, IsRebuiltIn}
 use Rattle.ddf_rebuild_command.proofs.Costs.{none_cost}
 use Rattle.ddf_rebuild_command.proofs.BackCosts.{none_cost_back}
-use Rattle.ddf_write_commands.specs.Write.{IsWriteDone, looking, write_request}
+use Rattle.ddf_write_commands.specs.Write.{CallsOfWriting, IsWriteDone, looking, write_request}
 use Rattle.ddf_write_commands.specs.Write.Outcome.{Unfit}
 use Rattle.ddf_command.specs.Run.{IsCommandDone, is_status}
 
@@ -102,6 +102,12 @@ same_asked result one other is (inr memory) = cc
 
 -- ---- before anything was done
 
+-- a write that only looked for its group made no more calls
+few_looks : {D : Type 0} (work : Work D) (timestamp : ℕ) (word : List ℕ) (start count : ℕ) (answer : Result GroupValue Assembly) → work.new.calls ≤ work.old.calls + most_looks (length work.old.sizes)
+    → CallsOfWriting work timestamp word start count answer
+few_looks work timestamp word start count (Ok found) few = inl few
+few_looks work timestamp word start count (Err fault) few = few
+
 -- no slot was looked at
 none_looked : {D : Type 0} (old : BayState D) → IsLooked old old
 none_looked old = record {
@@ -118,6 +124,7 @@ nothing_done old tells told before = record {
   are_failed = failed_padded old old [] (length old.sizes) (none_failed old old) (λ s le. (refl, refl));
   ends = inr (inl refl);
   tells = λ disks output. record { whole = λ low. absurd (omega (arith, low)); front = record { count = 0; within = omega arith; front = sym (append-nil before.taken) } };
+  calls = omega arith;
 }
 
 -- nothing of a group was changed
@@ -227,6 +234,7 @@ module _ {D : Type 0} (old : BayState D) (tells told : Type 0) (before : SinkSta
           leaves = λ tells. tt;
           along = λ tells. tt;
           costs = none_written (work_of tells old old) (reads_start old);
+          calls = few_looks (work_of tells old old) timestamp word start count (group_of taken.newest named) (omega arith);
         };
         ends = (refl, λ told. refl);
       }
@@ -243,6 +251,7 @@ done_nothing old tells told before reads input stamp group (Label style large sl
   unfailed = tt;
   any_moment = λ tells. stops_start old (IsLeftFoundingAll old (label_slots old.sizes slots) (label_copy large (revision_of style) stamp old.sizes slots));
   costs = writes_most (label_sectors (label_layout large old.sizes slots) * length (label_slots old.sizes slots)) (omega arith) (none_written (work_of tells old old) (reads_start old));
+  calls = omega arith;
   refused = λ tells refusal is. reads_start old;
 }
 done_nothing old tells told before reads input stamp group (Read name start count) = record {

@@ -1,5 +1,5 @@
 -- How many sectors `label` asks to be written.
-use Rattle.std.proofs.Common.{◌≡◌, ◌∙◌, ℕ, Bool, suc, ◌*◌, ◌-◌, List, [], ◌∷◌, length, refl, ap, arith}
+use Rattle.std.proofs.Common.{◌≡◌, ◌∙◌, ℕ, Bool, suc, ◌+◌, ◌*◌, ◌-◌, ◌≤◌, List, [], ◌∷◌, length, refl, ap, arith}
 use Rattle.std.specs.Prelude.{slice_get, Some}
 use Rattle.std.proofs.lemmas.List.Sums.{sum_by-cons}
 use Rattle.ddf_bytes.specs.declared.stamp.Stamp.{Stamp}
@@ -13,11 +13,12 @@ use Rattle.ddf_update.specs.declared.new_layout.NewLayout.{NewLayout}
 use Rattle.ddf_update.specs.declared.new_layout.NewLayout.TheVariants.{Large, Small}
 use Rattle.ddf_update.specs.NewCopies.{new_copy, new_geometry}
 use Rattle.ddf_update.specs.NewLayouts.{copy_length}
-use Rattle.ddf_update.specs.Prepared.{all_sectors, most_sectors}
+use Rattle.ddf_update.specs.Prepared.{all_calls, all_sectors, most_calls, most_sectors}
+use Rattle.ddf_update.proofs.Lies.{few_runs}
 use Rattle.ddf_answer.specs.Call.{work_of}
 use Rattle.ddf_answer.specs.Costs.{WritesAtMost, copy_sectors}
 use Rattle.ddf_answer.proofs.Costs.{costs_writes, none_written, runs_count, writes_most, writes_since}
-use Rattle.ddf_disk_commands.specs.Label.{label_sectors, label_slots}
+use Rattle.ddf_disk_commands.specs.Label.{label_sectors, label_slots, most_labelled}
 use Rattle.ddf_disk_commands.specs.LabelRefusal.{label_layout, layout_of}
 
 -- each new copy has as many sectors behind its header
@@ -33,6 +34,15 @@ all_alike each (update ∷ updates) are =
     let here = are 0 update refl in
     let rest = all_alike each updates (λ place one at. are (suc place) one at) in
     let both = sum_by-cons most_sectors update updates in
+    omega (arith, here, rest, both)
+
+-- Updates of few calls each.
+all_few : (updates : List Prepared) → ((place : ℕ) (update : Prepared) → slice_get updates place ≡ Some update → length update.runs ≤ 6) → all_calls updates ≤ 25 * length updates
+all_few [] few = omega arith
+all_few (update ∷ updates) few =
+    let here = few 0 update refl in
+    let rest = all_few updates (λ place one at. few (suc place) one at) in
+    let both = sum_by-cons most_calls update updates in
     omega (arith, here, rest, both)
 
 module _ {D : Type 0} (tells : Type 0) (a b : BayState D) (reads : ReadsOnly a b) (large : Bool) (named slots : List ℕ) (are : slots ≡ label_slots a.sizes named) where
@@ -54,3 +64,12 @@ module _ {D : Type 0} (tells : Type 0) (a b : BayState D) (reads : ReadsOnly a b
       all ∙ ap (λ (count : ℕ). label_sectors (label_layout large a.sizes named) * count) many in
       writes_since tells a b c reads (label_sectors (label_layout large a.sizes named) * length (label_slots a.sizes named))
       (writes_most (label_sectors (label_layout large a.sizes named) * length (label_slots a.sizes named)) (omega (arith, most)) (costs_writes tells spends.costs))
+
+  -- Each slot was looked at once, and got its copies in few calls.
+  pub label_few : (revision : Revision) (stamp : Stamp) (sizes : List ℕ) (updates : List Prepared) → AreFirst sizes (new_copy (layout_of large (length slots)) revision stamp sizes) updates → length updates ≡ length slots
+      → (c : BayState D) (sectors : ℕ) → SpendsOver b c sectors (all_calls updates) → b.calls ≤ a.calls + length (label_slots a.sizes named) → c.calls ≤ a.calls + most_labelled (length (label_slots a.sizes named))
+  label_few revision stamp sizes updates first counted c sectors spends looked =
+      let few = all_few updates (λ place update at. few_runs (new_copy (layout_of large (length slots)) revision stamp sizes place) update.runs (first.are_prepared place update at).runs_are) in
+      let many : length updates ≡ length (label_slots a.sizes named) = counted ∙ ap length are in
+      let most = spends.costs.calls_most in
+      omega (arith, few, many, most, looked)

@@ -1,5 +1,5 @@
 -- `examine` between two slots.
-use Rattle.std.proofs.Common.{◌≡◌, ℕ, suc, ◌+◌, ◌-◌, ◌<◌, ◌≤◌, ◌⊎◌, inl, inr, ⊎_elim, List, [], ◌∷◌, ◌++◌, length, take, Bool, true, false, Result, Ok, Err, refl, sym, ap, ◌∙◌, arith, append_assoc, length-append, replicate, zero-add}
+use Rattle.std.proofs.Common.{◌≡◌, ℕ, suc, ◌+◌, ◌-◌, ◌*◌, ◌<◌, ◌≤◌, ◌⊎◌, inl, inr, ⊎_elim, List, [], ◌∷◌, ◌++◌, length, take, Bool, true, false, Result, Ok, Err, refl, sym, ap, ◌∙◌, arith, append_assoc, length-append, replicate, zero-add}
 use Rattle.std.specs.Prelude.{IfOk, OnOk, if◌then◌else◌, ◌||◌}
 use Rattle.std.proofs.lemmas.List.{append-nil, take_all, take-append-le, length-replicate}
 use Rattle.std.proofs.Math.Seq.{take-append-add}
@@ -36,6 +36,7 @@ pub record IsPartway {D : Type 0} (old now : BayState D) (slot : ℕ) (told : Ty
   pub later : (s : ℕ) → slot ≤ s → SlotSame old now s
   pub fault_is : fault ≡ some_failed failed
   pub tells : told → after.taken ≡ before.taken ++ slots_text 0 failed old.sizes old.held
+  pub calls : now.calls ≤ old.calls + 17 * slot
 
 -- ---- the text
 
@@ -85,12 +86,13 @@ module _ (tells told : Type 0) where
     later = λ s le. (refl, refl);
     fault_is = refl;
     tells = λ told. sym (append-nil before.taken);
+    calls = omega arith;
   }
 
   module _ {D : Type 0} (old now next : BayState D) (slot : ℕ) (before after later : SinkState) (fault : Bool) (result : Result Bool Stop)
       (so_far : IsPartway old now slot (tells × told) before after fault)
       (same_sizes : now.sizes ≡ old.sizes) (same_held : now.held ≡ old.held)
-      (shown : IsSlotShown now next slot (tells × told) after later result) where
+      (shown : IsSlotShown now next slot (tells × told) after later result) (looked : next.calls ≤ now.calls + 17) where
     look : LooksAt now next (length so_far.failed) shown.failed
     look = rw so_far.slots shown.look
 
@@ -121,6 +123,7 @@ module _ (tells told : Type 0) where
       later = λ s le. beyond s (omega (arith, so_far.slots));
       fault_is = rw (so_far.fault_is, answered result b shown.failed ok shown.answer) (sym (some_failed-append so_far.failed shown.failed));
       tells = λ both. whole_told before.taken after.taken later.taken so_far.failed shown.failed old.sizes old.held (so_far.tells both) (on_ok result b ok (shown.whole both) ∙ ap (λ (ts : List ℕ). after.taken ++ ts) same_text);
+      calls = let before_it = so_far.calls in omega (arith, before_it, looked);
     }
 
     -- memory or the output gave out
@@ -134,6 +137,7 @@ module _ (tells told : Type 0) where
         whole = λ low. absurd (⊎_elim (λ e. omega (arith, e, low)) (λ e. omega (arith, e, low)) stop);
         front = rw append_assoc (front_told before after later so_far.failed (replicate (length old.sizes - (slot + 1)) false) shown.failed old.sizes old.held (so_far.tells (disks, output)) (rw same_text at (shown.front (disks, output))));
       };
+      calls = let before_it = so_far.calls in omega (arith, before_it, looked, lt);
     }
 
   -- after the last slot
@@ -152,4 +156,5 @@ module _ (tells told : Type 0) where
         front = so_far.tells (disks, output) ∙ ap (λ (ts : List ℕ). before.taken ++ ts) (sym (take_all _ (slots_text 0 so_far.failed old.sizes old.held) (omega arith)));
       };
     };
+    calls = let all = so_far.calls in omega (arith, all, last);
   }

@@ -1,5 +1,5 @@
 -- What `examine` tells, and how it ends.
-use Rattle.std.specs.Prelude.{◌≡◌, ◌⊎◌, ℕ, suc, List, [], ◌∷◌, ◌++◌, length, Bool, Result, IfOk, OnOk, slice_index, if◌then◌else◌}
+use Rattle.std.specs.Prelude.{◌≡◌, ◌⊎◌, ℕ, suc, ◌+◌, ◌*◌, ◌≤◌, List, [], ◌∷◌, ◌++◌, length, Bool, Result, IfOk, OnOk, slice_index, if◌then◌else◌}
 use Rattle.std.specs.List.{list_any}
 use Rattle.ddf_bytes.specs.Streams.{SinkState, TakesFront}
 use Rattle.ddf_bay.specs.State.{BayState}
@@ -25,6 +25,10 @@ slots_text slot (failed ∷ others) sizes held = one_text slot failed sizes held
 abbrev pub some_failed : List Bool → Bool
 some_failed failed = list_any (λ f. f) failed
 
+-- the most calls on so many slots: the anchor of each is read, its two headers, and the 14 parts of its copies
+abbrev pub most_examined : (slots : ℕ) → ℕ
+most_examined slots = 17 * slots
+
 -- What the slots showed was told, up to where memory or the output gave out.
 pub record IsExamined {D : Type 0} (work : Work D) (answer : Answer) : Type 0 where
   pub failed : List Bool
@@ -32,6 +36,7 @@ pub record IsExamined {D : Type 0} (work : Work D) (answer : Answer) : Type 0 wh
   pub are_failed : AreFailed work.old work.new failed
   pub ends : (answer.status ≡ (if some_failed failed then 3 else 0)) ⊎ IsCutShort answer.status
   pub tells : work.tells → answer.tells → Tells answer (slots_text 0 failed work.old.sizes work.old.held)
+  pub calls : work.new.calls ≤ work.old.calls + most_examined (length work.old.sizes)
 
 -- The lines of one slot were told, or a front of them where memory or the output gave out.
 pub record IsSlotShown {D : Type 0} (old new : BayState D) (slot : ℕ) (told : Type 0) (before after : SinkState) (result : Result Bool Stop) : Type 0 where

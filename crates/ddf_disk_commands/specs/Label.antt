@@ -1,5 +1,5 @@
 -- What `label` does, and how it ends.
-use Rattle.std.specs.Prelude.{◌≡◌, ℕ, Bool, ◌+◌, ◌*◌, ◌<◌, List, length, codes, Some, None, OnOk, Result, Ok, Err}
+use Rattle.std.specs.Prelude.{◌≡◌, ℕ, Bool, ◌+◌, ◌*◌, ◌<◌, ◌≤◌, List, length, codes, Some, None, OnOk, Result, Ok, Err}
 use Rattle.ddf_bytes.specs.declared.stamp.Stamp.{Stamp}
 use Rattle.ddf_bay.specs.Moments.{StopsLeave}
 use Rattle.ddf_bay.specs.ReadsOnly.{ReadsOnly, SlotRose}
@@ -38,6 +38,10 @@ label_copy large revision stamp sizes named = new_copy (label_layout large sizes
 abbrev pub label_sectors : NewLayout → ℕ
 label_sectors layout = 2 * (copy_length layout + 1) + 1
 
+-- the most calls on so many of them: each is looked at once, and gets its copies in at most 25
+abbrev pub most_labelled : (slots : ℕ) → ℕ
+most_labelled slots = 26 * slots
+
 -- What it did, by its answer: the slots have their copies, sure; or else it was refused and nothing was written, or a call on a
 -- slot failed, or memory ran out and nothing was written.
 abbrev pub IsTried : {D : Type 0} → Work D → (large : Bool) → Revision → Stamp → (named : List ℕ) → Result (Unit {0}) Failure → Type 0
@@ -60,7 +64,7 @@ IsToldLabel (Err failure) answer = IsToldFailure failure answer
 
 -- It did this, and said so. A stop leaves each slot as it might have left it before, or blank, or with its copy, and no sector
 -- before both places of the copy is written. Where it is to be refused nothing is written, whatever it answers; and no more than the sectors
--- of the slots' copies ever are. Where it is done no write or sync of any slot failed.
+-- of the slots' copies ever are, with no more calls than these take. Where it is done no write or sync of any slot failed.
 pub record IsLabelled {D : Type 0} (work : Work D) (large : Bool) (revision : Revision) (stamp : Stamp) (named : List ℕ) (answer : Answer) : Type 0 where
   pub outcome : Result (Unit {0}) Failure
   pub tried : IsTried work large revision stamp named outcome
@@ -68,4 +72,5 @@ pub record IsLabelled {D : Type 0} (work : Work D) (large : Bool) (revision : Re
   pub unfailed : OnOk outcome ((slot : ℕ) → work.new.failed_writes slot ≡ work.old.failed_writes slot)
   pub any_moment : work.tells → StopsLeave work.old work.new (IsLeftFoundingAll work.old (label_slots work.old.sizes named) (label_copy large revision stamp work.old.sizes named))
   pub costs : WritesAtMost work (label_sectors (label_layout large work.old.sizes named) * length (label_slots work.old.sizes named))
+  pub calls : work.new.calls ≤ work.old.calls + most_labelled (length (label_slots work.old.sizes named))
   pub refused : work.tells → (refusal : Refusal) → label_refusal large work.old.sizes work.old.held named ≡ Some refusal → ReadsOnly work.old work.new

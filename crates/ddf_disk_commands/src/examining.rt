@@ -1,5 +1,5 @@
 //! `examine`: what each slot shows, slot by slot. docs/COMMANDS.md#examine
-ghost use Rattle.std.specs.Prelude.{◌≡◌, ◌<◌, length, OnOk, IsErrOf};
+ghost use Rattle.std.specs.Prelude.{◌≡◌, ◌+◌, ◌<◌, ◌≤◌, length, OnOk, IsErrOf};
 ghost use Rattle.ddf_bytes.specs.Streams.{SinkRose, SinkSame};
 ghost use Rattle.ddf_bay.specs.ReadsOnly.{ReadsOnly};
 ghost use Rattle.ddf_copy.specs.Faults.{show_failed};
@@ -62,6 +62,7 @@ fn examine_slot<B: Bay, K: Sink>(
     requires { slot < length (B.disks bay.old).sizes }
     ensures shown { IsSlotShown (B.disks bay.old) (B.disks bay.new) slot (B.tells × K.tells) (K.output sink.old) (K.output sink.new) result }
     ensures reads { ReadsOnly (B.disks bay.old) (B.disks bay.new) }
+    ensures calls { (B.disks bay.new).calls ≤ (B.disks bay.old).calls + 17 }
     ensures ok { OnOk result (SinkSame (K.output sink.old) (K.output sink.new)) }
     ensures output { IsErrOf result Stop.Output → SinkRose (K.output sink.old) (K.output sink.new) }
 {

@@ -1,7 +1,7 @@
 //! The slots that `label` takes, and what it is refused for: every anchor is read before the first write, since a disk with one may be needed by a
 //! group.
 //! docs/COMMANDS.md#label
-ghost use Rattle.std.specs.Prelude.{◌≡◌, ◌<◌, ◌≤◌, nat_le, Some, None, All, IfOk, IfErr, OnOk, length};
+ghost use Rattle.std.specs.Prelude.{◌≡◌, ◌+◌, ◌<◌, ◌≤◌, nat_le, Some, None, All, IfOk, IfErr, OnOk, length};
 ghost use Rattle.std.specs.List.{find};
 ghost use Rattle.ddf_bay.specs.ReadsOnly.{ReadsOnly, SlotRose};
 ghost use Rattle.ddf_disk_commands.specs.Label.{label_slots};
@@ -62,6 +62,7 @@ pub(crate) fn fit_slots<B: Bay>(
     ensures failed { IfErr result (IsFitFailure (B.disks bay.old) (B.disks bay.new) B.tells large named.now) }
     ensures quiet { OnOk result (IsQuiet (B.disks bay.old) (B.disks bay.new)) }
     ensures reads { ReadsOnly (B.disks bay.old) (B.disks bay.new) }
+    ensures calls { (B.disks bay.new).calls ≤ (B.disks bay.old).calls + length (label_slots (B.disks bay.old).sizes named.now) }
 {
     let count = bay.slots();
     if let Some(slot) = missing(count, named) {
@@ -132,6 +133,7 @@ fn unfit<B: Bay>(bay: &mut B, large: bool, slots: &[usize]) -> Result<Option<Ref
     ensures failed { IfErr result (λ e. (e.0 < length (B.disks bay.old).sizes) × SlotRose (B.disks bay.old) (B.disks bay.new) e.0) }
     ensures quiet { OnOk result (IsQuiet (B.disks bay.old) (B.disks bay.new)) }
     ensures reads { ReadsOnly (B.disks bay.old) (B.disks bay.new) }
+    ensures calls { (B.disks bay.new).calls ≤ (B.disks bay.old).calls + length slots.now }
 {
     match first_anchored(bay, slots) {
         Ok(anchored) => Ok(misfit(bay, layout_of(large, slots.len()), slots, anchored)),
@@ -180,6 +182,7 @@ fn first_anchored<B: Bay>(bay: &mut B, slots: &[usize]) -> Result<Option<usize>,
     ensures failed { IfErr result (λ e. (e.0 < length (B.disks bay.old).sizes) × SlotRose (B.disks bay.old) (B.disks bay.new) e.0) }
     ensures quiet { OnOk result (IsQuiet (B.disks bay.old) (B.disks bay.new)) }
     ensures reads { ReadsOnly (B.disks bay.old) (B.disks bay.new) }
+    ensures calls { (B.disks bay.new).calls ≤ (B.disks bay.old).calls + length slots.now }
 {
     let mut first = None;
     for slot in slots {
@@ -196,6 +199,7 @@ fn is_anchored<B: Bay>(bay: &mut B, slot: usize) -> Result<bool, DiskFault>
     ensures failed { IfErr result (λ e. (e.0 ≡ slot) × SlotRose (B.disks bay.old) (B.disks bay.new) slot) }
     ensures quiet { OnOk result (IsQuiet (B.disks bay.old) (B.disks bay.new)) }
     ensures reads { ReadsOnly (B.disks bay.old) (B.disks bay.new) }
+    ensures calls { (B.disks bay.new).calls ≤ (B.disks bay.old).calls + 1 }
 {
     match anchor_of(bay, slot) {
         Err(AnchorFault::Blank) => Ok(false),

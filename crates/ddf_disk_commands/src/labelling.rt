@@ -1,11 +1,11 @@
 //! `label`: the first copies of a new group's disks. docs/UPDATES.md#the-first-copies-of-a-disk
-ghost use Rattle.std.specs.Prelude.{◌≡◌, ◌*◌, ◌<◌, ℕ, Some, All, IfOk, OnOk, length};
+ghost use Rattle.std.specs.Prelude.{◌≡◌, ◌+◌, ◌*◌, ◌<◌, ◌≤◌, ℕ, Some, All, IfOk, OnOk, length};
 ghost use Rattle.ddf_bay.specs.Moments.{GoesOn, StopsLeave};
 ghost use Rattle.ddf_bay.specs.ReadsOnly.{ReadsOnly};
 ghost use Rattle.ddf_update.specs.Group.{AreFirst, IsLeftFoundingAll, slot_sizes};
 ghost use Rattle.ddf_update.specs.NewCopies.{new_copy};
 ghost use Rattle.ddf_config.specs.declared.refusal.Refusal.{Refusal};
-ghost use Rattle.ddf_disk_commands.specs.Label.{IsLabelled, IsTried, label_copy, label_sectors, label_slots, revision_of};
+ghost use Rattle.ddf_disk_commands.specs.Label.{IsLabelled, IsTried, label_copy, label_sectors, label_slots, most_labelled, revision_of};
 ghost use Rattle.ddf_disk_commands.specs.LabelRefusal.{IsFit, label_layout, label_refusal, layout_of};
 ghost use Rattle.ddf_answer.specs.Call.{answer_of, work_of};
 ghost use Rattle.ddf_answer.specs.Costs.{WritesAtMost};
@@ -69,6 +69,7 @@ fn labelled<B: Bay>(
     ensures goes_on { GoesOn (B.disks bay.old) (B.disks bay.new) }
     ensures same_sizes { (B.disks bay.new).sizes ≡ (B.disks bay.old).sizes }
     ensures costs { WritesAtMost (work_of B.tells (B.disks bay.old) (B.disks bay.new)) (label_sectors (label_layout large (B.disks bay.old).sizes named.now) * length (label_slots (B.disks bay.old).sizes named.now)) }
+    ensures calls { (B.disks bay.new).calls ≤ (B.disks bay.old).calls + most_labelled (length (label_slots (B.disks bay.old).sizes named.now)) }
     ensures refused { B.tells → (refusal : Refusal) → label_refusal large (B.disks bay.old).sizes (B.disks bay.old).held named.now ≡ Some refusal → ReadsOnly (B.disks bay.old) (B.disks bay.new) }
 {
     let slots = match fit_slots(alloc, large, named, bay) {

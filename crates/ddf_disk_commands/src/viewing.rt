@@ -1,5 +1,5 @@
 //! What a slot shows of itself: its anchor, the two headers that the anchor names, and its copies. docs/FORMAT.md#whole-copies
-ghost use Rattle.std.specs.Prelude.{◌≡◌, ◌<◌, IfOk, length, slice_index};
+ghost use Rattle.std.specs.Prelude.{◌≡◌, ◌+◌, ◌<◌, ◌≤◌, IfOk, length, slice_index};
 ghost use Rattle.ddf_header.specs.Header.{decoded};
 ghost use Rattle.ddf_bay.specs.State.{on_slot};
 ghost use Rattle.ddf_bay.specs.ReadsOnly.{ReadsOnly, LooksAt};
@@ -24,6 +24,7 @@ pub(crate) fn view_disk<B: Bay>(
     ensures view { B.tells → IfOk result (λ view. view ≡ on_slot disk_view (B.disks bay.old) slot) }
     ensures reads { ReadsOnly (B.disks bay.old) (B.disks bay.new) }
     ensures look { LooksAt (B.disks bay.old) (B.disks bay.new) slot (show_failed result) }
+    ensures calls { (B.disks bay.new).calls ≤ (B.disks bay.old).calls + 17 }
 {
     match anchor_of(bay, slot) {
         Ok(anchor) => {
@@ -47,6 +48,7 @@ fn view_headers<B: Bay>(
     ensures view { B.tells → IfOk result (λ view. view ≡ on_slot headers_view (B.disks bay.old) slot anchor.now) }
     ensures reads { ReadsOnly (B.disks bay.old) (B.disks bay.new) }
     ensures look { LooksAt (B.disks bay.old) (B.disks bay.new) slot (show_failed result) }
+    ensures calls { (B.disks bay.new).calls ≤ (B.disks bay.old).calls + 16 }
 {
     let primary = view_header(bay, slot, anchor.primary_lba, HeaderKind::Primary)?;
     let secondary = view_header(bay, slot, anchor.secondary_lba, HeaderKind::Secondary)?;
@@ -71,6 +73,7 @@ fn view_header<B: Bay>(
     ensures view { B.tells → IfOk result (λ view. view ≡ on_slot header_view (B.disks bay.old) slot lba kind) }
     ensures reads { ReadsOnly (B.disks bay.old) (B.disks bay.new) }
     ensures look { LooksAt (B.disks bay.old) (B.disks bay.new) slot (show_failed result) }
+    ensures calls { (B.disks bay.new).calls ≤ (B.disks bay.old).calls + 1 }
 {
     if lba >= bay.size(slot) {
         return Ok(HeaderView::Room);

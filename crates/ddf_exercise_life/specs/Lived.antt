@@ -1,5 +1,5 @@
 -- Lives that an exercise lives.
-use Rattle.std.specs.Prelude.{◌≡◌, ℕ, true, List, [], ◌∷◌, ◌++◌, length}
+use Rattle.std.specs.Prelude.{◌≡◌, ℕ, true, false, List, [], ◌∷◌, ◌++◌, length}
 use Rattle.ddf_bytes.specs.declared.stamp.Stamp.{Stamp}
 use Rattle.ddf_header.specs.declared.kind.Revision.TheVariants.{R200}
 use Rattle.ddf_bay.specs.Memory.{disks_of, state_of}

@@ -1,5 +1,5 @@
 -- What a look kept of the cells beside blocks, before the steps of the group that come before these: behind them it is what the cells hold still.
-use Rattle.std.proofs.Common.{◌≡◌, ◌∙◌, inl, inr, ℕ, ◌≤◌, true, not, List, length, None, Some, ap, sym, subst}
+use Rattle.std.proofs.Common.{◌≡◌, ◌∙◌, inl, inr, ℕ, ◌≤◌, true, false, not, List, length, None, Some, ap, sym, subst}
 use Rattle.std.specs.Map.{lookup}
 use Rattle.ddf_bay.specs.Sectors.{Image}
 use Rattle.ddf_bay.specs.State.{BayState}
@@ -36,7 +36,7 @@ use Rattle.ddf_write_commands.specs.Write.{write_behind, write_refusals, write_r
 use Rattle.ddf_write_commands.proofs.BelowFloors.{cell_below}
 use Rattle.ddf_write_commands.proofs.BelowSteps.{seats_same}
 use Rattle.ddf_write_commands.proofs.Marked.{with_mark}
-use Rattle.ddf_write_commands.proofs.MarkedCells.{left_marked, lies_marked, sure_unmarked, values_marked}
+use Rattle.ddf_write_commands.proofs.MarkedCells.{left_marked, lies_marked, parity_same, sure_unmarked, values_marked}
 use Rattle.ddf_write_commands.proofs.PlanKept.{either}
 use Rattle.ddf_write_commands.proofs.PlanWritten.{unmarked_accepted, was_unmarked}
 
@@ -66,6 +66,13 @@ module _ (start count : ℕ) (group : GroupValue) (word : List ℕ) (plan : Plan
 
   pub unmarked_taken : write_refusal (unmarked_view plan) start count ≡ None
   unmarked_taken = subst (λ (v : Volume). write_refusal v start count ≡ None) (sym is.is_for.is_unmarked) (unmarked_accepted start count config group.seats word plan is)
+
+  -- The mark is no parity.
+  pub parity_plain : keeps_parity_anywhere plan.view ≡ false → keeps_parity_anywhere (unmarked_view plan) ≡ false
+  parity_plain =
+      by_view (λ (v : Volume). keeps_parity_anywhere v ≡ false → keeps_parity_anywhere (unmarked_view plan) ≡ false)
+      (λ none. ap keeps_parity_anywhere is.is_for.is_unmarked ∙ none)
+      (λ none. ap keeps_parity_anywhere is.is_for.is_unmarked ∙ sym (parity_same plain) ∙ none)
 
   -- ---- what it tells
 

@@ -1,5 +1,5 @@
 -- The last step of a group, by what the call promises that writes it.
-use Rattle.std.proofs.Common.{◌≡◌, ℕ, ◌≤◌, Bool, true, false, List, [], ◌∷◌, length, None, Some, refl, sym, ◌∙◌, inl, inr, ⊎_elim, arith}
+use Rattle.std.proofs.Common.{◌≡◌, ℕ, ◌+◌, ◌*◌, ◌≤◌, Bool, true, false, List, [], ◌∷◌, length, None, Some, refl, sym, ◌∙◌, inl, inr, ⊎_elim, arith}
 use Rattle.std.proofs.lemmas.Bool.{false≢true}
 use Rattle.std.proofs.lemmas.List.{length-map}
 use Rattle.std.specs.Prelude.{slice_get}
@@ -10,12 +10,15 @@ use Rattle.ddf_bay.proofs.Steps.{costs_start, stops_weaken}
 use Rattle.ddf_config.specs.Configuration.{Configuration}
 use Rattle.ddf_update.specs.Changes.{IsLeftChangingAll}
 use Rattle.ddf_update.specs.Group.{IsOneOf, LieOnSlots}
-use Rattle.ddf_update.specs.Prepared.{all_sectors}
+use Rattle.ddf_update.specs.Prepared.{all_calls, all_sectors}
 use Rattle.ddf_history.specs.Groups.{groups}
 use Rattle.ddf_history.specs.Issued.{Past}
 use Rattle.ddf_recovery.specs.Committed.{IsReadyFor, MayWriteNext, group_next, left_behind, next_slots, next_updates}
 use Rattle.ddf_steps.specs.Committed.{slots_of}
 use Rattle.ddf_seats.specs.Group.{GroupValue}
+use Rattle.ddf_seats.specs.Seated.{seated}
+use Rattle.ddf_steps.specs.Steps.{in_order}
+use Rattle.ddf_steps.specs.Trying.{AreFollowing}
 use Rattle.ddf_steps.specs.Ready.{ReadyStep}
 use Rattle.ddf_recovery.specs.Ready.{ReadyValue}
 use Rattle.ddf_recovery.proofs.Committed.{may_write_next, next_lies}
@@ -27,6 +30,7 @@ use Rattle.ddf_history_steps.specs.Course.{IsUnderWay}
 use Rattle.ddf_history_steps.proofs.Course.{course_ends}
 use Rattle.ddf_group_commands.specs.Others.{LeavesOthers}
 use Rattle.ddf_group_commands.specs.Writing.{IsLeftWriting}
+use Rattle.ddf_group_commands.proofs.FewCalls.{prepared_few, slots_few}
 use Rattle.ddf_group_commands.proofs.Keeping.{reads_true}
 use Rattle.ddf_group_commands.proofs.LeftWriting.{left_still, says_one, step_leaves}
 use Rattle.ddf_group_commands.proofs.Recovering.{next_on_seat}
@@ -39,6 +43,20 @@ use Rattle.ddf_bay.specs.Told.{IsTold}
 module _ {D : Type 0} (tells : Type 0) (old : BayState D) (found : GroupValue) (ready : ReadyValue) (can : CanGoOn tells old found ready) where
   pub lies_next : LieOnSlots old.sizes (next_slots ready) (next_updates ready)
   lies_next = next_lies old.sizes found can.anchored ready can.is_ready
+
+  -- It is written with few calls.
+  pub closed_few : (new : BayState D) → Costs old new (all_sectors (next_updates ready)) (all_calls (next_updates ready)) → new.calls ≤ old.calls + 25 * length old.sizes
+  closed_few new costs =
+      let slots = slots_few old.sizes (next_slots ready) lies_next.are_slots in
+      let counted = lies_next.counted in
+      let few = by ready.steps can.is_ready.follows in
+      let most = costs.calls_most in
+      omega (arith, few, slots, counted, most)
+    where
+      by : (steps : List ReadyStep) → AreFollowing (seated found) steps
+          → all_calls (next_updates (record { recovery = ready.recovery; steps = steps })) ≤ 25 * length (next_updates (record { recovery = ready.recovery; steps = steps }))
+      by [] follows = omega arith
+      by (one ∷ others) follows = prepared_few (in_order one.step.disks) one.updates follows.0.are_prepared
 
   may : tells → MayWriteNext old ready
   may told = may_write_next old found ready (can.holds told) can.is_ready

@@ -34,5 +34,6 @@ mod BehindLook
 mod Surely
 mod WriteLooked
 mod FirstPiece
+mod WriteCalls
 mod WriteTaken
 mod WriteCame

@@ -1,5 +1,5 @@
 -- What a write of blocks came to, by what it took from its input.
-use Rattle.std.proofs.Common.{◌≡◌, ◌⊎◌, ℕ, Bool, true, false, List, ◌++◌, length, ◌==◌, Option, Result, Ok, Err, refl, ap, sym, subst, inr, ⊎_elim}
+use Rattle.std.proofs.Common.{◌≡◌, ◌⊎◌, ℕ, ◌+◌, ◌≤◌, Bool, true, false, List, ◌++◌, length, ◌==◌, Option, Result, Ok, Err, refl, ap, sym, subst, inr, ⊎_elim}
 use Rattle.std.specs.Prelude.{IsTrue}
 use Rattle.ddf_bay.specs.Moments.{GoesOn}
 use Rattle.ddf_bay.specs.ReadsOnly.{ReadsOnly}
@@ -19,6 +19,7 @@ use Rattle.ddf_words.specs.declared.command.Command.TheVariants.{Write}
 use Rattle.ddf_words.specs.declared.traits.Traits.{Traits}
 use Rattle.ddf_words.specs.Traits.{traits_of}
 use Rattle.ddf_group_commands.specs.Change.{Request}
+use Rattle.ddf_read_commands.specs.Read.{most_looks}
 use Rattle.ddf_write_commands.specs.declared.payload.PayloadFault.{PayloadFault}
 use Rattle.ddf_write_commands.specs.declared.payload.PayloadFault.TheVariants as payloads
 use Rattle.ddf_write_commands.specs.declared.writing.Done.{Done}
@@ -27,10 +28,11 @@ use Rattle.ddf_write_commands.specs.declared.writing.WriteFault.TheVariants as f
 use Rattle.ddf_write_commands.specs.Payload.{ArePiecesOf, InputRose, IsNoPayload, IsShort, IsUntaken, Pieces}
 use Rattle.ddf_write_commands.specs.Planned.{IsPlanned}
 use Rattle.ddf_write_commands.specs.Worked.{IsWorkedIn}
-use Rattle.ddf_write_commands.specs.Write.{HasWrittenArray, IsAccepted, IsDoneTold, IsSequenceTold, IsWriteTold, IsWriteIn, IsWrittenAs, Outcome, answered, fault_of_payload, looking, write_request, writing}
+use Rattle.ddf_write_commands.specs.Write.{CallsOfPlan, CallsOfWriting, HasWrittenArray, IsAccepted, IsDoneTold, IsSequenceTold, IsWriteTold, IsWriteIn, IsWrittenAs, Outcome, answered, fault_of_payload, looking, write_request, writing}
 use Rattle.ddf_write_commands.specs.Write.Outcome.{Broken, NotRead, Short, Taken, Unfit}
 use Rattle.ddf_write_commands.proofs.Ended.{failure_cause, failure_unwritten}
 use Rattle.ddf_write_commands.proofs.Since.{HasComeTo, HaveSince}
+use Rattle.ddf_write_commands.proofs.WriteCalls.{few_in}
 use Rattle.ddf_write_commands.proofs.WriteWorks.{look_steady, write_steady}
 
 module _ {D : Type 0} (work : Work D) (input : Input) (named : Option (List ℕ)) (timestamp : ℕ) (word : List ℕ) (start count : ℕ) where
@@ -45,9 +47,9 @@ module _ {D : Type 0} (work : Work D) (input : Input) (named : Option (List ℕ)
   none_taken = record { each = 1; ahead = 0 }
 
   -- nothing was taken from the input
-  pub unfit_came : IsUntaken input → ReadsOnly work.old work.new → (failure : Failure) → HasComeTo (looking start count) work named timestamp word request (Err failure)
-      → HasWrittenArray work input named timestamp word start count (Unfit failure)
-  unfit_came untaken reads failure come = record {
+  pub unfit_looked : IsUntaken input → ReadsOnly work.old work.new → (failure : Failure) → (come : HasComeTo (looking start count) work named timestamp word request (Err failure))
+      → CallsOfWriting work timestamp word start count (group_of come.taken.newest named) → HasWrittenArray work input named timestamp word start count (Unfit failure)
+  unfit_looked untaken reads failure come calls = record {
     taken = come.taken;
     gone = λ given. come.gone (λ spent. given (unfit_memory failure spent));
     pieces = none_taken;
@@ -55,12 +57,21 @@ module _ {D : Type 0} (work : Work D) (input : Input) (named : Option (List ℕ)
     leaves = λ told. tt;
     along = λ told. tt;
     costs = none_written work reads;
+    calls = calls;
   }
+
+  -- nor was anything looked at but the group
+  pub unfit_came : IsUntaken input → ReadsOnly work.old work.new → (failure : Failure) → HasComeTo (looking start count) work named timestamp word request (Err failure)
+      → work.new.calls ≤ work.old.calls + most_looks (length work.old.sizes) → HasWrittenArray work input named timestamp word start count (Unfit failure)
+  unfit_came untaken reads failure come few = unfit_looked untaken reads failure come (few_in work timestamp word start count (group_of come.taken.newest named) few)
 
   -- ---- what lies beside the blocks was looked at
 
   module _ (group : GroupValue) (plan : IsPlanned group timestamp word request) (pieces : Pieces) (are_pieces : ArePiecesOf plan.volume start count pieces)
-      (since : HaveSince (looking start count) work named timestamp word request group false) (reads : ReadsOnly work.old work.new) where
+      (since : HaveSince (looking start count) work named timestamp word request group false) (reads : ReadsOnly work.old work.new) (calls : CallsOfPlan work group timestamp word start count) where
+    are_calls : CallsOfWriting work timestamp word start count (group_of since.taken.newest named)
+    are_calls = subst (λ (one : Result GroupValue Assembly). CallsOfWriting work timestamp word start count one) (sym since.is_group) (inr calls)
+
     is_accepted : IsAccepted timestamp word start count pieces (group_of since.taken.newest named)
     is_accepted = record { found = group; is_found = since.is_group; steps = plan.first ++ plan.last; are_asked = plan.are_asked; plan = plan; are_pieces = are_pieces }
 
@@ -74,6 +85,7 @@ module _ {D : Type 0} (work : Work D) (input : Input) (named : Option (List ℕ)
       leaves = λ told. tt;
       along = λ told. tt;
       costs = none_written work reads;
+      calls = are_calls;
     }
 
     -- it failed
@@ -86,6 +98,7 @@ module _ {D : Type 0} (work : Work D) (input : Input) (named : Option (List ℕ)
       leaves = λ told. tt;
       along = λ told. tt;
       costs = none_written work reads;
+      calls = are_calls;
     }
 
     -- there was no memory
@@ -101,9 +114,10 @@ module _ {D : Type 0} (work : Work D) (input : Input) (named : Option (List ℕ)
 
     -- why there was nothing to write
     pub payload_came : (fault : PayloadFault) → IsNoPayload input pieces count fault → IsWrittenAs work input named timestamp word start count (Err (fault_of_payload fault))
+    unfolding no_room
     payload_came (payloads.Short found) is = record { outcome = Short found; is_answered = refl; has = short_came found is }
     payload_came payloads.Failed is = record { outcome = NotRead; is_answered = refl; has = not_read_came is }
-    payload_came payloads.Memory is = record { outcome = Unfit Memory; is_answered = refl; has = unfit_came is reads Memory no_room }
+    payload_came payloads.Memory is = record { outcome = Unfit Memory; is_answered = refl; has = unfit_looked is reads Memory no_room are_calls }
 
   pub unfit_as : (failure : Failure) → HasWrittenArray work input named timestamp word start count (Unfit failure) → IsWrittenAs work input named timestamp word start count (Err (faults.Failure failure))
   unfit_as failure has = record { outcome = Unfit failure; is_answered = refl; has = has }

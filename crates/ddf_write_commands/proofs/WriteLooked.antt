@@ -14,6 +14,7 @@ use Rattle.ddf_write.specs.Beside.{NoneLeftBeside}
 use Rattle.ddf_write.specs.Looking.{IsLookFault}
 use Rattle.ddf_write.specs.WriteRefused.{write_refusal}
 use Rattle.ddf_group.specs.declared.answer.Assembly.{Assembly}
+use Rattle.ddf_assembly.specs.Group.{group_of}
 use Rattle.ddf_steps.specs.Committed.{slots_of}
 use Rattle.ddf_seats.specs.Group.{GroupValue}
 use Rattle.ddf_recovery.specs.Recovery.{config_recovered}
@@ -32,7 +33,7 @@ use Rattle.ddf_write_commands.specs.declared.planning.Plan.{Plan}
 use Rattle.ddf_write_commands.specs.Planned.{IsPlanned}
 use Rattle.ddf_write_commands.specs.Plans.{IsPlanOf, unmarked_view}
 use Rattle.ddf_write_commands.specs.Worked.{IsWorkedIn, IsWorkedOf}
-use Rattle.ddf_write_commands.specs.Write.{IsUnseen, looking, write_behind, write_refusals, write_request}
+use Rattle.ddf_write_commands.specs.Write.{CallsOfPlan, CallsOfWriting, IsUnseen, looking, write_behind, write_refusals, write_request}
 use Rattle.ddf_write_commands.proofs.Between.{seat_there}
 use Rattle.ddf_write_commands.proofs.BesideKept.{left_there}
 use Rattle.ddf_write_commands.proofs.Looked.{goes_looked}
@@ -101,3 +102,8 @@ module _ {D : Type 0} (tells : Type 0) (old middle looked : BayState D) (reads :
       along = look_since.along;
       costs = look_since.costs;
     }
+
+    pub look_calls : (failure : Failure) (left : IsUnseen middle looked (unmarked_view plan) start count failure) → CallsOfPlan (work_of tells old looked) group timestamp word start count
+        → CallsOfWriting (work_of tells old looked) timestamp word start count (group_of (look_came failure left).taken.newest named)
+    unfolding look_came
+    look_calls failure left calls = subst (λ (one : Result GroupValue Assembly). CallsOfWriting (work_of tells old looked) timestamp word start count one) (sym look_since.is_group) (inr calls)

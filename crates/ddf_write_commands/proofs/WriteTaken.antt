@@ -1,5 +1,5 @@
 -- What a write of blocks came to since its entry, by what its calls promise: what it read of its group, the first piece of the input, and what it wrote.
-use Rattle.std.proofs.Common.{◌≡◌, ◌∙◌, ⊎_elim, ℕ, ◌+◌, ◌*◌, ◌<◌, ◌≤◌, true, List, [], ◌∷◌, ◌++◌, length, take, drop, Option, Result, Ok, Err, refl, sym, ap, subst, arith, length-append}
+use Rattle.std.proofs.Common.{◌≡◌, ◌∙◌, ⊎_elim, ℕ, ◌+◌, ◌*◌, ◌<◌, ◌≤◌, true, List, [], ◌∷◌, ◌++◌, length, take, drop, Option, Result, Ok, Err, refl, sym, ap, subst, inr, arith, length-append}
 use Rattle.std.specs.Prelude.{OnOk}
 use Rattle.std.proofs.lemmas.List.{append_assoc, drop-drop, drop_at, length-take-le}
 use Rattle.ddf_bytes.specs.Counts.{Rose}
@@ -35,7 +35,7 @@ use Rattle.ddf_write_commands.specs.Payload.{ArePiecesOf, IsFirstPiece, IsPayloa
 use Rattle.ddf_write_commands.specs.Planned.{IsPlanned}
 use Rattle.ddf_write_commands.specs.Plans.{IsPlanOf}
 use Rattle.ddf_write_commands.specs.Worked.{IsArrayLeft, IsLeftIn, IsWorkedIn, IsWorkedOf}
-use Rattle.ddf_write_commands.specs.Write.{AreGiven, HasWrittenBlocks, IsAccepted, IsWrittenAs, is_all_done, write_behind, write_refusals, write_request, writing, writing_beside}
+use Rattle.ddf_write_commands.specs.Write.{AreGiven, CallsOfPlan, CallsOfWriting, HasWrittenBlocks, IsAccepted, IsWrittenAs, is_all_done, write_behind, write_refusals, write_request, writing, writing_beside}
 use Rattle.ddf_write_commands.specs.Write.Outcome.{Broken, Taken}
 use Rattle.ddf_write_commands.proofs.BehindLook.{made_behind}
 use Rattle.ddf_write_commands.proofs.Costs.{plan_costs}
@@ -172,8 +172,8 @@ module _ (tells : Type 0) (before between after : SourceState) (pieces : Pieces)
 
     pub come : (sectors : List (List ℕ)) (result : Result Done WriteFault)
         → HasWrittenBlocks bay_tells looked new group plan timestamp start count kept pieces tells between after first sectors result → OnOk result (new.failed_writes ≡ looked.failed_writes)
-        → IsWrittenAs (work_of bay_tells old new) (input_of tells before after) named timestamp word start count result
-    come sectors (Ok done) has unfailed =
+        → CallsOfPlan (work_of bay_tells old new) group timestamp word start count → IsWrittenAs (work_of bay_tells old new) (input_of tells before after) named timestamp word start count result
+    come sectors (Ok done) has unfailed calls =
         let now = since sectors (Ok done) has unfailed in
         let left = has.given.2.0 in
         record {
@@ -192,9 +192,10 @@ module _ (tells : Type 0) (before between after : SourceState) (pieces : Pieces)
             leaves = now.leaves;
             along = now.along;
             costs = now.costs;
+            calls = subst (λ (one : Result GroupValue Assembly). CallsOfWriting (work_of bay_tells old new) timestamp word start count one) (sym now.is_group) (inr calls);
           };
         }
-    come sectors (Err (faults.Failure failure)) has unfailed =
+    come sectors (Err (faults.Failure failure)) has unfailed calls =
         let now = since sectors (Err (faults.Failure failure)) has unfailed in
         record {
           outcome = Taken sectors (Err failure);
@@ -223,9 +224,10 @@ module _ (tells : Type 0) (before between after : SourceState) (pieces : Pieces)
             leaves = now.leaves;
             along = now.along;
             costs = now.costs;
+            calls = subst (λ (one : Result GroupValue Assembly). CallsOfWriting (work_of bay_tells old new) timestamp word start count one) (sym now.is_group) (inr calls);
           };
         }
-    come sectors (Err faults.Input) has unfailed =
+    come sectors (Err faults.Input) has unfailed calls =
         let now = since sectors (Err faults.Input) has unfailed in
         record {
           outcome = Broken sectors;
@@ -249,5 +251,6 @@ module _ (tells : Type 0) (before between after : SourceState) (pieces : Pieces)
             leaves = now.leaves;
             along = now.along;
             costs = now.costs;
+            calls = subst (λ (one : Result GroupValue Assembly). CallsOfWriting (work_of bay_tells old new) timestamp word start count one) (sym now.is_group) (inr calls);
           };
         }

@@ -1,5 +1,5 @@
 -- What `write` does, and how it ends.
-use Rattle.std.specs.Prelude.{◌≡◌, ◌⊎◌, ℕ, ◌+◌, ◌-◌, ◌*◌, ◌<◌, ◌==◌, Bool, true, false, not, List, [], ◌∷◌, ◌++◌, length, Option, Result, Ok, Err, if◌then◌else◌}
+use Rattle.std.specs.Prelude.{◌≡◌, ◌⊎◌, ℕ, ◌+◌, ◌-◌, ◌*◌, ◌<◌, ◌≤◌, ◌==◌, Bool, true, false, not, List, [], ◌∷◌, ◌++◌, length, Option, Result, Ok, Err, if◌then◌else◌}
 use Rattle.ddf_bytes.specs.Counts.{Rose}
 use Rattle.ddf_bytes.specs.Streams.{GivesFront, SourceState, TakesFront}
 use Rattle.ddf_bay.specs.Moments.{StopsLeave}
@@ -11,16 +11,16 @@ use Rattle.ddf_config.specs.States.{is_marked}
 use Rattle.ddf_plan.specs.declared.change.Change.{Change}
 use Rattle.ddf_plan.specs.declared.change.Change.TheVariants.{Unmark}
 use Rattle.ddf_array.specs.Viewing.{is_array_redundant, is_array_within, view_of}
-use Rattle.ddf_cells.specs.CellsOn.{copy_cells}
+use Rattle.ddf_cells.specs.CellsOn.{copy_cells, write_stretches}
 use Rattle.ddf_array.specs.Volume.{Volume}
 use Rattle.ddf_bay.specs.Sectors.{Image}
 use Rattle.ddf_read.specs.Reading.{Failed}
 use Rattle.ddf_write.specs.Beside.{NoneLeftBeside}
 use Rattle.ddf_write.specs.Keeping.{AreTheirValues, Keeping}
-use Rattle.ddf_write.specs.Looking.{piece_of}
-use Rattle.ddf_write.specs.RowWrites.{IsSure, row_cells}
+use Rattle.ddf_write.specs.Looking.{most_blocks, piece_of}
+use Rattle.ddf_write.specs.RowWrites.{IsSure, keeps_parity_anywhere, row_cells}
 use Rattle.ddf_write.specs.Writing.{HasWritten, IsAmongWrites, IsLeftByWrite}
-use Rattle.ddf_pieces.specs.Pieces.{EndWithPiece}
+use Rattle.ddf_pieces.specs.Pieces.{EndWithPiece, GrewByPieces}
 use Rattle.ddf_pieces.specs.Coming.{HaveCome}
 use Rattle.ddf_group.specs.declared.answer.Assembly.{Assembly}
 use Rattle.ddf_steps.specs.Committed.{slots_of}
@@ -42,6 +42,7 @@ use Rattle.ddf_group_commands.specs.Costs.{steps_sectors}
 use Rattle.ddf_group_commands.specs.GroupRead.{IsFoundBy}
 use Rattle.ddf_group_commands.specs.Others.{LeavesOthers}
 use Rattle.ddf_read_commands.specs.declared.using.Access.TheVariants.{Writes}
+use Rattle.ddf_read_commands.specs.Read.{most_looks}
 use Rattle.ddf_read_commands.specs.Use.{array_refusals}
 use Rattle.ddf_write_commands.specs.Along.{AllComeAlong, GoesAlong}
 use Rattle.ddf_write_commands.specs.Costs.{CostsOfDoing}
@@ -170,6 +171,26 @@ module _ {D : Type 0} (work : Work D) (input : Input) (timestamp : ℕ) (word : 
   CostsOfWriting meaning NotRead = WritesAtMost work 0
   CostsOfWriting meaning (Unfit failure) = WritesAtMost work 0
 
+-- ---- how often it calls
+
+-- The most calls that it makes of a bay of so many slots beside those for its blocks: 15 to look at each, one sync of each for the recovery, 25 for each copy of the recovery, of the
+-- mark and of the step behind the blocks, and one sync behind these.
+abbrev pub most_beside : (slots : ℕ) → ℕ
+most_beside slots = 92 * slots
+
+-- It went on to the blocks of an array. Where no element of it keeps parity it made one call for each stretch of each piece, beside those.
+pub record CallsOfPlan {D : Type 0} (work : Work D) (found : GroupValue) (timestamp : ℕ) (word : List ℕ) (start count : ℕ) : Type 0 where
+  pub plan : IsPlanned found timestamp word (write_request word start count)
+  pub most : keeps_parity_anywhere plan.volume ≡ false
+      → GrewByPieces (write_stretches plan.volume) most_blocks start count (work.old.calls + most_beside (length work.old.sizes)) work.new.calls
+
+-- However it ends, it only looked for the group, or made no more calls than that.
+abbrev pub CallsOfWriting : {D : Type 0} → Work D → (timestamp : ℕ) → (word : List ℕ) → (start count : ℕ) → Result GroupValue Assembly → Type 0
+CallsOfWriting work timestamp word start count (Ok found) = (work.new.calls ≤ work.old.calls + most_looks (length work.old.sizes)) ⊎ CallsOfPlan work found timestamp word start count
+CallsOfWriting work timestamp word start count (Err fault) = work.new.calls ≤ work.old.calls + most_looks (length work.old.sizes)
+
+-- ---- what came of a call
+
 -- A call came to this: what it made of the group that it took, and of its input. A slot of which every call fails is left out, but where memory ran out before the input was read.
 pub record HasWrittenArray {D : Type 0} (work : Work D) (input : Input) (named : Option (List ℕ)) (timestamp : ℕ) (word : List ℕ) (start count : ℕ) (outcome : Outcome) : Type 0 where
   pub taken : TakesGroup work named timestamp (write_request word start count) (is_written outcome)
@@ -179,6 +200,7 @@ pub record HasWrittenArray {D : Type 0} (work : Work D) (input : Input) (named :
   pub leaves : work.tells → LeavesWriting work input timestamp word start count (group_of taken.newest named) outcome
   pub along : work.tells → GoesAlongWriting work input timestamp word start count taken.left (group_of taken.newest named) outcome
   pub costs : CostsOfWriting work input timestamp word start count (group_of taken.newest named) outcome
+  pub calls : CallsOfWriting work timestamp word start count (group_of taken.newest named)
 
 -- ---- what is told of it
 

@@ -1,7 +1,7 @@
 //! What is written around the blocks of an array: a group's recovery and the array's mark before them, and the last step behind them. A stop
 //! within blocks of an array that isn't marked would leave parity that fits no row, and nothing would tell.
 //! docs/STOPS.md#the-blocks-of-arrays
-ghost use Rattle.std.specs.Prelude.{◌≡◌, ◌≤◌, ℕ, List, Bool, false, Option, None, Ok, Err, length, IfErr, IfOk, OnOk};
+ghost use Rattle.std.specs.Prelude.{◌≡◌, ◌+◌, ◌*◌, ◌≤◌, ℕ, List, Bool, false, Option, None, Ok, Err, length, IfErr, IfOk, OnOk};
 ghost use Rattle.std.specs.List.{AllByRecursion, list_any};
 ghost use Rattle.ddf_bay.specs.Moments.{GoesOn, StopsLeave};
 ghost use Rattle.ddf_plan.specs.Same.{is_step};
@@ -74,6 +74,7 @@ pub(crate) fn open_blocks<B: Bay>(
     ensures opened { OnOk result (IsOpened B.tells (B.disks bay.old) (B.disks bay.new) group.old (front plan.now.redundant plan.now.changes) plan.now.changes timestamp group.new ready.new) }
     ensures left { OnOk result (ready.new ≡ record { recovery = None; steps = rest plan.now.marks ready.old.steps }) }
     ensures costs { WritesAtMost (work_of B.tells (B.disks bay.old) (B.disks bay.new)) (sectors_before plan.now.marks ready.old) }
+    ensures calls { (B.disks bay.new).calls ≤ (B.disks bay.old).calls + 51 * length (B.disks bay.old).sizes }
     ensures failed { IfErr result (λ failure. IsChanged (work_of B.tells (B.disks bay.old) (B.disks bay.new)) group.old (steps_or (readied group.old plan.now.changes timestamp)) (Err failure)) }
 
     // From entry to exit slots that are no seats' are left as before, each history that admits the call is kept by the first steps, and of the seats'
@@ -104,6 +105,7 @@ pub(crate) fn close_blocks<B: Bay>(
     requires { CanGoOn B.tells (B.disks bay.old) group.old ready.old }
     ensures closed { IsClosed B.tells (B.disks bay.old) (B.disks bay.new) group.old ready.old result }
     ensures costs { WritesAtMost (work_of B.tells (B.disks bay.old) (B.disks bay.new)) (all_sectors (next_updates ready.old)) }
+    ensures calls { (B.disks bay.new).calls ≤ (B.disks bay.old).calls + 25 * length (B.disks bay.old).sizes }
     ensures beside { B.tells → LeavesOthers (B.disks bay.old) (B.disks bay.new) (slots_of group.old.seats) }
     ensures leaves { B.tells → StopsLeave (B.disks bay.old) (B.disks bay.new) (IsLeftWriting (B.disks bay.old) (steps_left ready.old)) }
 

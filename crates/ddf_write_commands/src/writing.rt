@@ -1,17 +1,19 @@
 //! `write`: blocks of an array get the bytes of the input. What lies beside them is read before the array is marked: behind the mark parity is no
 //! source, and a bad sector beside them could not be had. docs/FAULTS.md#a-small-write-beside-an-unreadable-sector
-ghost use Rattle.std.specs.Prelude.{◌≡◌, ◌⊎◌, ◌*◌, ℕ, List, None, Option, true, IfErr, IfOk, OnOk, length, take};
+ghost use Rattle.std.specs.Prelude.{◌≡◌, ◌⊎◌, ◌+◌, ◌*◌, ℕ, List, None, Option, false, true, IfErr, IfOk, OnOk, length, take};
 ghost use Rattle.ddf_bytes.specs.Stamps.{timestamp_of};
 ghost use Rattle.ddf_bytes.specs.Streams.{SinkRose};
 ghost use Rattle.ddf_bay.specs.Moments.{GoesOn};
 ghost use Rattle.ddf_array.specs.Sources.{trusts_parity};
 ghost use Rattle.ddf_array.specs.Volume.{Fits};
 ghost use Rattle.ddf_read.specs.Reading.{Failed, OnlyReads};
+ghost use Rattle.ddf_cells.specs.CellsOn.{write_stretches};
 ghost use Rattle.ddf_cells.specs.Touching.{GoesBetween};
 ghost use Rattle.ddf_write.specs.Keeping.{AreTheirValues};
 ghost use Rattle.ddf_write.specs.Looking.{LiesBeside};
 ghost use Rattle.ddf_write.specs.RowWrites.{IsSure, keeps_parity_anywhere};
 ghost use Rattle.ddf_write.specs.WriteRefused.{write_refusal};
+ghost use Rattle.ddf_pieces.specs.Pieces.{GrewByPieces};
 ghost use Rattle.ddf_recovery.specs.Committed.{WasReadied};
 ghost use Rattle.ddf_recovery.specs.Recovery.{config_recovered};
 ghost use Rattle.ddf_seats.specs.Seated.{seated};
@@ -170,6 +172,7 @@ fn look<B: Bay>(
     ensures values { B.tells → IfOk result (λ beside. IsSure (Failed (B.disks bay.old) (B.disks bay.new)) (unmarked_view plan.now) (B.disks bay.old).held → AreTheirValues (unmarked_view plan.now) (B.disks bay.old).held beside.kept) }
     ensures unseen { IfErr result (IsUnseen (B.disks bay.old) (B.disks bay.new) (unmarked_view plan.now) start count) }
     ensures reads { OnlyReads (B.disks bay.old) (B.disks bay.new) }
+    ensures idle { keeps_parity_anywhere (unmarked_view plan.now) ≡ false → (B.disks bay.new).calls ≡ (B.disks bay.old).calls }
 {
     match look_beside(alloc, bay, unmarked_view(plan), start, count) {
         Ok(beside) => Ok(beside),
@@ -203,6 +206,8 @@ fn write_array<B: Bay, S: Source>(
     ensures unfailed { OnOk result ((B.disks bay.new).failed_writes ≡ (B.disks bay.old).failed_writes) }
     ensures goes { GoesBetween (B.disks bay.old) (B.disks bay.new) }
     ensures reads { (B.disks bay.new).failed_reads ≡ (B.disks bay.old).failed_reads }
+    ensures calls { keeps_parity_anywhere plan.now.view ≡ false
+        → GrewByPieces (write_stretches plan.now.view) beside.now.each start count ((B.disks bay.old).calls + 77 * length (B.disks bay.old).sizes) (B.disks bay.new).calls }
 {
     open_blocks(group, ready, plan, timestamp, bay)?;
     match write_pieces(bay, &plan.view, beside, start, count, room, source) {

@@ -8,6 +8,7 @@ pub loop-slot-preserved : goal.loop-slot-preserved
 loop-slot-preserved g c = record {
   end = c.loop-slot.invariant.end;
   reads = reads_then c.loop-slot.invariant.reads c.in_ok-anchored.ensures.reads;
+  calls = let before_it = c.loop-slot.invariant.calls in let one = c.in_ok-anchored.ensures.calls in omega (arith, before_it, one);
   quiet = λ s. ((c.in_ok-anchored.ensures.quiet s).0 ∙ (c.loop-slot.invariant.quiet s).0, (c.in_ok-anchored.ensures.quiet s).1 ∙ (c.loop-slot.invariant.quiet s).1);
   first_is = λ tells.
       let lt : c.loop-slot.slot-index < length c.args.slots.now = omega (arith, c.loop-slot-test.true, c.loop-slot.invariant.end) in

@@ -11,6 +11,7 @@ returns-in-Ok-clause-done g c = rw (← c.revision_of.ensures) (record {
   unfailed = c.in-Ok.ensures.unfailed;
   any_moment = c.labelled.ensures.any_moment;
   costs = c.labelled.ensures.costs;
+  calls = c.labelled.ensures.calls;
   refused = c.labelled.ensures.refused;
 })
 
@@ -25,6 +26,7 @@ returns-in-Err-clause-done g c = rw (← c.revision_of.ensures) (record {
   unfailed = tt;
   any_moment = c.labelled.ensures.any_moment;
   costs = c.labelled.ensures.costs;
+  calls = c.labelled.ensures.calls;
   refused = c.labelled.ensures.refused;
 })
 

@@ -1,6 +1,6 @@
 use Rattle.std.proofs.Common.{◌∙◌, ℕ, ap, inr}
 use Rattle.ddf_disk_commands.proofs.Chosen.{chosen_once}
-use Rattle.ddf_disk_commands.proofs.LabelCosts.{label_costs}
+use Rattle.ddf_disk_commands.proofs.LabelCosts.{label_costs, label_few}
 use Rattle.ddf_disk_commands.proofs.Labelled.{label_founded, label_stops, slots_lie}
 use Rattle.ddf_disk_commands.proofs.labelling.labelled.Goals as goal
 
@@ -54,3 +54,19 @@ returns-clause-costs g c =
     let counted = rw c.deref.ensures.value at c.in-Ok-first_updates.ensures.counted in
     let spends = rw c.deref-3.ensures.value at c.found_disks.ensures.spends in
     label_costs g.B.Bay.tells _ _ c.in-Ok.ensures.reads c.args.large c.args.named.now c.in-Ok.slots.items c.in-Ok.ensures.slots c.args.revision c.args.stamp.now _ c.in-Ok-first_updates.updates.items first counted _ _ spends
+
+pub returns-in-Ok-found_disks-clause-calls : goal.returns-in-Ok-found_disks-clause-calls
+returns-in-Ok-found_disks-clause-calls g c =
+    let first = rw c.deref.ensures.value at c.in-Ok-first_updates.ensures.first in
+    let counted = rw c.deref.ensures.value at c.in-Ok-first_updates.ensures.counted in
+    let spends = rw c.deref-3.ensures.value at c.found_disks.ensures.spends in
+    label_few g.B.Bay.tells _ _ c.in-Ok.ensures.reads c.args.large c.args.named.now c.in-Ok.slots.items c.in-Ok.ensures.slots c.args.revision c.args.stamp.now _ c.in-Ok-first_updates.updates.items first counted _ _ spends
+    c.fit_slots.ensures.calls
+
+pub returns-clause-calls : goal.returns-clause-calls
+returns-clause-calls g c =
+    let first = rw c.deref.ensures.value at c.in-Ok-first_updates.ensures.first in
+    let counted = rw c.deref.ensures.value at c.in-Ok-first_updates.ensures.counted in
+    let spends = rw c.deref-3.ensures.value at c.found_disks.ensures.spends in
+    label_few g.B.Bay.tells _ _ c.in-Ok.ensures.reads c.args.large c.args.named.now c.in-Ok.slots.items c.in-Ok.ensures.slots c.args.revision c.args.stamp.now _ c.in-Ok-first_updates.updates.items first counted _ _ spends
+    c.fit_slots.ensures.calls

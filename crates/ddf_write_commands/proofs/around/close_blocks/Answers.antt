@@ -5,7 +5,7 @@ use Rattle.ddf_seats.specs.Group.{GroupValue}
 use Rattle.ddf_history_steps.specs.Steps.{IsCommit}
 use Rattle.ddf_answer.proofs.Costs.{costs_writes}
 use Rattle.ddf_write_commands.specs.Closed.{IsLastWritten}
-use Rattle.ddf_write_commands.proofs.Closing.{last_aside, last_leaves, last_written, lies_next, on_seats}
+use Rattle.ddf_write_commands.proofs.Closing.{closed_few, last_aside, last_leaves, last_written, lies_next, on_seats}
 use Rattle.ddf_bay.specs.Told.{IsTold}
 use Rattle.ddf_write_commands.proofs.around.close_blocks.Goals as goal
 
@@ -109,3 +109,11 @@ returns-in_err-commit-clause-costs g c = costs_writes g.B.Bay.tells c.commit.ens
 
 pub returns-clause-costs : goal.returns-clause-costs
 returns-clause-costs g c = costs_writes g.B.Bay.tells c.commit.ensures.spends.costs
+
+pub returns-in_err-commit-clause-calls : goal.returns-in_err-commit-clause-calls
+returns-in_err-commit-clause-calls g c =
+    closed_few g.B.Bay.tells (g.B.Bay.disks c.args.bay.now) c.args.group.now c.args.ready.now c.requires (g.B.Bay.disks c.commit.new.bay) c.commit.ensures.spends.costs
+
+pub returns-clause-calls : goal.returns-clause-calls
+returns-clause-calls g c =
+    closed_few g.B.Bay.tells (g.B.Bay.disks c.args.bay.now) c.args.group.now c.args.ready.now c.requires (g.B.Bay.disks c.commit.new.bay) c.commit.ensures.spends.costs

@@ -4,6 +4,7 @@ use Rattle.ddf_update.specs.Group.{IsOneOf, LieOnSlots}
 use Rattle.ddf_recovery.specs.Committed.{next_slots, next_updates}
 use Rattle.ddf_recovery.specs.Ready.{ReadyValue}
 use Rattle.ddf_history_steps.specs.Steps.{IsCommit, IsRecovery}
+use Rattle.ddf_group_commands.proofs.FewCalls.{committed_few, recovered_few}
 use Rattle.ddf_group_commands.proofs.Recovering.{commit_failed, first_lies, recover_failed, rest_lies, slots_there}
 use Rattle.ddf_write_commands.proofs.Costs.{alone_costs, behind_costs, left_marked, left_unmarked}
 use Rattle.ddf_bay.specs.Told.{IsTold}
@@ -281,4 +282,26 @@ pub returns-clause-unfailed : goal.returns-clause-unfailed
 returns-clause-unfailed g c = elim c.if-plan.branch [
   | then-plan+in_ok-commit w ↦ rw w.bay-is (w.in_ok-commit.ensures.ok ∙ c.in_ok-recover.ensures.ok)
   | else-plan w ↦ rw w.bay-is c.in_ok-recover.ensures.ok
+]
+
+pub returns-in_err-recover-clause-calls : goal.returns-in_err-recover-clause-calls
+returns-in_err-recover-clause-calls g c =
+    recovered_few g.B.Bay.tells (g.B.Bay.disks c.args.bay.now) c.args.group.now c.args.plan.now.changes c.args.timestamp c.args.ready.now c.requires.from c.requires.was (g.B.Bay.disks c.recover.new.bay)
+    c.recover.ensures.spends.costs
+
+pub returns-in_err-commit-clause-calls : goal.returns-in_err-commit-clause-calls
+returns-in_err-commit-clause-calls g c =
+    committed_few g.B.Bay.tells (g.B.Bay.disks c.args.bay.now) c.args.group.now c.args.plan.now.changes c.args.timestamp c.args.ready.now c.requires.from c.requires.was (g.B.Bay.disks c.recover.new.bay)
+    (g.B.Bay.disks c.commit.new.bay) c.recover.ensures.spends.costs (rw c.recover.ensures.left at c.commit.ensures.spends.costs)
+
+pub returns-clause-calls : goal.returns-clause-calls
+returns-clause-calls g c = elim c.if-plan.branch [
+  | then-plan+in_ok-commit w ↦
+      rw w.bay-is
+      (committed_few g.B.Bay.tells (g.B.Bay.disks c.args.bay.now) c.args.group.now c.args.plan.now.changes c.args.timestamp c.args.ready.now c.requires.from c.requires.was (g.B.Bay.disks c.recover.new.bay)
+      (g.B.Bay.disks w.commit.new.bay) c.recover.ensures.spends.costs (rw c.recover.ensures.left at w.commit.ensures.spends.costs))
+  | else-plan w ↦
+      rw w.bay-is
+      (recovered_few g.B.Bay.tells (g.B.Bay.disks c.args.bay.now) c.args.group.now c.args.plan.now.changes c.args.timestamp c.args.ready.now c.requires.from c.requires.was (g.B.Bay.disks c.recover.new.bay)
+      c.recover.ensures.spends.costs)
 ]

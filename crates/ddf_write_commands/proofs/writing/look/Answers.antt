@@ -24,3 +24,12 @@ returns-in-Err-Volume-clause-unseen g c =
     let plain = unmarked_view c.args.plan.now in
     let fault = subst (λ (one : LookFault). IsLookFault old new plain c.args.start c.args.count one) c.in-Err-Volume.field-0-is (rw c.unmarked_view.ensures at c.in-Err-Volume.ensures.fault) in
     rw c.failure_of.ensures (look_unseen old new plain c.args.start c.args.count c.requires.accepted c.in-Err-Volume.fault fault)
+
+pub returns-in-Ok-clause-idle : goal.returns-in-Ok-clause-idle
+returns-in-Ok-clause-idle g c = rw c.unmarked_view.ensures at c.look_beside.ensures.idle
+
+pub returns-in-Err-Volume-clause-idle : goal.returns-in-Err-Volume-clause-idle
+returns-in-Err-Volume-clause-idle g c = rw c.unmarked_view.ensures at c.look_beside.ensures.idle
+
+pub returns-in-Err-Memory-clause-idle : goal.returns-in-Err-Memory-clause-idle
+returns-in-Err-Memory-clause-idle g c = rw c.unmarked_view.ensures at c.look_beside.ensures.idle

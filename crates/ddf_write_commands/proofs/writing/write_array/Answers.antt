@@ -1,4 +1,4 @@
-use Rattle.std.proofs.Common.{◌∙◌, ◌*◌, ℕ, List, [], take, Err, arith, subst, sym}
+use Rattle.std.proofs.Common.{◌∙◌, ◌+◌, ◌*◌, ℕ, List, [], length, take, Err, arith, subst, sym}
 use Rattle.std.proofs.lemmas.Result.{err_from_is_err_and}
 use Rattle.ddf_config.specs.Seats.{SeatsFit}
 use Rattle.ddf_pieces.specs.declared.fault.PieceFault.{PieceFault}
@@ -11,6 +11,7 @@ use Rattle.ddf_bay.specs.Told.{IsTold}
 use Rattle.ddf_write_commands.proofs.PlanWritten.{parity_redundant}
 use Rattle.ddf_write_commands.proofs.PlanKept.{apart_there, fits_there, none_trusted}
 use Rattle.ddf_write_commands.proofs.WriteBlocks.{blocks_cut_off, blocks_done, blocks_failed, blocks_not_opened, blocks_unclosed, can_close, given_all, given_unclosed}
+use Rattle.ddf_write_commands.proofs.WriteCalls.{grew_between, none_grew, stopped_grew}
 use Rattle.ddf_write_commands.proofs.writing.write_array.Goals as goal
 
 pub returns-in_err-open_blocks-clause-done : goal.returns-in_err-open_blocks-clause-done
@@ -116,3 +117,50 @@ returns-in_err-sequence-in-Ok-clause-reads g c = c.close_blocks.ensures.reads �
 
 pub returns-in_ok-sequence-in-Ok-clause-reads : goal.returns-in_ok-sequence-in-Ok-clause-reads
 returns-in_ok-sequence-in-Ok-clause-reads g c = c.close_blocks.ensures.reads ∙ c.write_pieces.ensures.reads ∙ c.in_ok-open_blocks.ensures.reads
+
+pub returns-in_err-open_blocks-clause-calls : goal.returns-in_err-open_blocks-clause-calls
+returns-in_err-open_blocks-clause-calls g c = λ none.
+    let old = g.B.Bay.disks c.args.bay.now in
+    let opens = c.open_blocks.ensures.calls in
+    none_grew c.args.plan.now.view c.args.start c.args.count c.args.beside.now.each c.requires.lies.some (old.calls + 77 * length old.sizes) (g.B.Bay.disks c.open_blocks.new.bay).calls (omega (arith, opens))
+
+pub returns-in_err-sequence-in-Ok-clause-calls : goal.returns-in_err-sequence-in-Ok-clause-calls
+returns-in_err-sequence-in-Ok-clause-calls g c = λ none.
+    let old = g.B.Bay.disks c.args.bay.now in
+    let opened = g.B.Bay.disks c.open_blocks.new.bay in
+    let behind = g.B.Bay.disks c.write_pieces.new.bay in
+    let grew = c.in-Ok.ensures.done.are.calls none in
+    grew_between c.args.plan.now.view c.args.start c.args.count c.args.beside.now.each c.requires.lies.some old opened behind (g.B.Bay.disks c.close_blocks.new.bay) c.open_blocks.ensures.same_sizes c.write_pieces.ensures.goes.same_sizes
+    c.open_blocks.ensures.calls c.close_blocks.ensures.calls grew
+
+pub returns-in_ok-sequence-in-Ok-clause-calls : goal.returns-in_ok-sequence-in-Ok-clause-calls
+returns-in_ok-sequence-in-Ok-clause-calls g c = λ none.
+    let old = g.B.Bay.disks c.args.bay.now in
+    let opened = g.B.Bay.disks c.open_blocks.new.bay in
+    let behind = g.B.Bay.disks c.write_pieces.new.bay in
+    let grew = c.in-Ok.ensures.done.are.calls none in
+    grew_between c.args.plan.now.view c.args.start c.args.count c.args.beside.now.each c.requires.lies.some old opened behind (g.B.Bay.disks c.close_blocks.new.bay) c.open_blocks.ensures.same_sizes c.write_pieces.ensures.goes.same_sizes
+    c.open_blocks.ensures.calls c.close_blocks.ensures.calls grew
+
+pub returns-in-Err-Volume-clause-calls : goal.returns-in-Err-Volume-clause-calls
+returns-in-Err-Volume-clause-calls g c = λ none.
+    let old = g.B.Bay.disks c.args.bay.now in
+    let opened = g.B.Bay.disks c.open_blocks.new.bay in
+    let behind = g.B.Bay.disks c.write_pieces.new.bay in
+    let first = take (512 * first_piece (pieces_of c.args.beside.now) c.args.count) c.args.room.now in
+    let came = subst (λ (fault : PieceFault). ArePiecesWritten g.B.Bay.tells (g.B.Bay.disks c.open_blocks.new.bay) (g.B.Bay.disks c.write_pieces.new.bay) c.args.plan.now.view c.args.start c.args.count c.args.beside.now.each c.args.beside.now.ahead c.args.beside.now.kept g.S.Source.tells (g.S.Source.input c.args.source.now) (g.S.Source.input c.write_pieces.new.source) first (Err fault)) c.in-Err-Volume.field-0-is c.in-Err-Volume.ensures.done in
+    let grew = stopped_grew c.args.plan.now.view c.args.start c.args.count c.args.beside.now.each c.requires.lies.some g.B.Bay.tells opened behind c.args.beside.now.ahead c.args.beside.now.kept g.S.Source.tells
+    (g.S.Source.input c.args.source.now) (g.S.Source.input c.write_pieces.new.source) first c.in-Err-Volume.fault came none in
+    grew_between c.args.plan.now.view c.args.start c.args.count c.args.beside.now.each c.requires.lies.some old opened behind behind c.open_blocks.ensures.same_sizes c.write_pieces.ensures.goes.same_sizes
+    c.open_blocks.ensures.calls (omega arith) grew
+
+pub returns-in-Err-Source-clause-calls : goal.returns-in-Err-Source-clause-calls
+returns-in-Err-Source-clause-calls g c = λ none.
+    let old = g.B.Bay.disks c.args.bay.now in
+    let opened = g.B.Bay.disks c.open_blocks.new.bay in
+    let behind = g.B.Bay.disks c.write_pieces.new.bay in
+    let first = take (512 * first_piece (pieces_of c.args.beside.now) c.args.count) c.args.room.now in
+    let came = subst (λ (fault : PieceFault). ArePiecesWritten g.B.Bay.tells (g.B.Bay.disks c.open_blocks.new.bay) (g.B.Bay.disks c.write_pieces.new.bay) c.args.plan.now.view c.args.start c.args.count c.args.beside.now.each c.args.beside.now.ahead c.args.beside.now.kept g.S.Source.tells (g.S.Source.input c.args.source.now) (g.S.Source.input c.write_pieces.new.source) first (Err fault)) c.in-Err-Source.field-0-is c.in-Err-Source.ensures.done in
+    let grew = came.are.calls none in
+    grew_between c.args.plan.now.view c.args.start c.args.count c.args.beside.now.each c.requires.lies.some old opened behind behind c.open_blocks.ensures.same_sizes c.write_pieces.ensures.goes.same_sizes
+    c.open_blocks.ensures.calls (omega arith) grew

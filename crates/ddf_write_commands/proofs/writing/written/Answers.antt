@@ -9,15 +9,16 @@ use Rattle.ddf_answer.specs.Call.{input_of, work_of}
 use Rattle.ddf_group_commands.proofs.Outcomes.{group_read, read_still}
 use Rattle.ddf_write_commands.specs.Payload.{ArePiecesOf, pieces_of}
 use Rattle.ddf_write_commands.specs.Write.{looking, write_behind, write_refusals, write_request}
-use Rattle.ddf_write_commands.proofs.BesideKept.{kept_values, lies_there, pieces_there, unmarked_fits, unmarked_taken, unmarked_trusted}
+use Rattle.ddf_write_commands.proofs.BesideKept.{kept_values, lies_there, parity_plain, pieces_there, unmarked_fits, unmarked_taken, unmarked_trusted}
 use Rattle.ddf_write_commands.proofs.OnePlan.{same_volume}
 use Rattle.ddf_write_commands.proofs.PlanKept.{planned, steps_are}
 use Rattle.ddf_write_commands.proofs.PlanWritten.{few_behind}
 use Rattle.ddf_write_commands.proofs.Since.{none_come, not_planned, not_ready, unwritten_come}
 use Rattle.ddf_write_commands.proofs.Staying.{current_recovered}
+use Rattle.ddf_write_commands.proofs.WriteCalls.{looked_calls, written_calls}
 use Rattle.ddf_write_commands.proofs.WriteTaken.{come}
-use Rattle.ddf_write_commands.proofs.WriteCame.{payload_came, unfit_as, unfit_came}
-use Rattle.ddf_write_commands.proofs.WriteLooked.{look_came, look_since}
+use Rattle.ddf_write_commands.proofs.WriteCame.{payload_came, unfit_as, unfit_came, unfit_looked}
+use Rattle.ddf_write_commands.proofs.WriteLooked.{look_calls, look_came, look_since}
 use Rattle.ddf_write_commands.proofs.writing.written.Goals as goal
 
 pub returns-in_err-group-clause-written : goal.returns-in_err-group-clause-written
@@ -27,7 +28,7 @@ returns-in_err-group-clause-written g c =
     rw (failed.1, failed.2)
     (unfit_as work (input_of g.S.Source.tells (g.S.Source.input c.args.source.now) (g.S.Source.input c.args.source.now)) c.args.named (timestamp_of c.args.stamp.now) c.args.name.now c.args.start c.args.count c.in_err-group.field-0.0
     (unfit_came work (input_of g.S.Source.tells (g.S.Source.input c.args.source.now) (g.S.Source.input c.args.source.now)) c.args.named (timestamp_of c.args.stamp.now) c.args.name.now c.args.start c.args.count refl c.read_group.ensures.reads c.in_err-group.field-0.0
-    (none_come (looking c.args.start c.args.count) work c.args.named (timestamp_of c.args.stamp.now) c.args.name.now (write_request c.args.name.now c.args.start c.args.count) c.read_group.ensures.reads c.in_err-group.field-0.0 c.in_err-group.ensures.read)))
+    (none_come (looking c.args.start c.args.count) work c.args.named (timestamp_of c.args.stamp.now) c.args.name.now (write_request c.args.name.now c.args.start c.args.count) c.read_group.ensures.reads c.in_err-group.field-0.0 c.in_err-group.ensures.read) c.in_err-group.ensures.read.calls))
 
 pub returns-in_err-plan-clause-written : goal.returns-in_err-plan-clause-written
 returns-in_err-plan-clause-written g c =
@@ -36,7 +37,7 @@ returns-in_err-plan-clause-written g c =
     rw (failed.1, failed.2)
     (unfit_as work (input_of g.S.Source.tells (g.S.Source.input c.args.source.now) (g.S.Source.input c.args.source.now)) c.args.named (timestamp_of c.args.stamp.now) c.args.name.now c.args.start c.args.count c.in_err-plan.field-0.0
     (unfit_came work (input_of g.S.Source.tells (g.S.Source.input c.args.source.now) (g.S.Source.input c.args.source.now)) c.args.named (timestamp_of c.args.stamp.now) c.args.name.now c.args.start c.args.count refl c.read_group.ensures.reads c.in_err-plan.field-0.0
-    (unwritten_come (looking c.args.start c.args.count) work c.args.named (timestamp_of c.args.stamp.now) c.args.name.now (write_request c.args.name.now c.args.start c.args.count) c.read_group.ensures.reads c.in_ok-group.group c.in_err-plan.field-0.0 c.in_ok-group.ensures.read (not_planned (looking c.args.start c.args.count) work c.args.named (timestamp_of c.args.stamp.now) c.args.name.now (write_request c.args.name.now c.args.start c.args.count) c.read_group.ensures.reads (write_refusals c.args.start c.args.count) write_behind c.in_ok-group.group c.in_err-plan.field-0.0 refl c.in_err-plan.ensures))))
+    (unwritten_come (looking c.args.start c.args.count) work c.args.named (timestamp_of c.args.stamp.now) c.args.name.now (write_request c.args.name.now c.args.start c.args.count) c.read_group.ensures.reads c.in_ok-group.group c.in_err-plan.field-0.0 c.in_ok-group.ensures.read (not_planned (looking c.args.start c.args.count) work c.args.named (timestamp_of c.args.stamp.now) c.args.name.now (write_request c.args.name.now c.args.start c.args.count) c.read_group.ensures.reads (write_refusals c.args.start c.args.count) write_behind c.in_ok-group.group c.in_err-plan.field-0.0 refl c.in_err-plan.ensures)) c.in_ok-group.ensures.read.calls))
 
 pub returns-in_err-ready-clause-written : goal.returns-in_err-ready-clause-written
 returns-in_err-ready-clause-written g c =
@@ -45,7 +46,7 @@ returns-in_err-ready-clause-written g c =
     rw (failed.1, failed.2)
     (unfit_as work (input_of g.S.Source.tells (g.S.Source.input c.args.source.now) (g.S.Source.input c.args.source.now)) c.args.named (timestamp_of c.args.stamp.now) c.args.name.now c.args.start c.args.count c.in_err-ready.field-0.0
     (unfit_came work (input_of g.S.Source.tells (g.S.Source.input c.args.source.now) (g.S.Source.input c.args.source.now)) c.args.named (timestamp_of c.args.stamp.now) c.args.name.now c.args.start c.args.count refl c.read_group.ensures.reads c.in_err-ready.field-0.0
-    (unwritten_come (looking c.args.start c.args.count) work c.args.named (timestamp_of c.args.stamp.now) c.args.name.now (write_request c.args.name.now c.args.start c.args.count) c.read_group.ensures.reads c.in_ok-group.group c.in_err-ready.field-0.0 c.in_ok-group.ensures.read (not_ready (looking c.args.start c.args.count) work c.args.named (timestamp_of c.args.stamp.now) c.args.name.now (write_request c.args.name.now c.args.start c.args.count) c.read_group.ensures.reads c.in_ok-group.group c.in_err-ready.field-0.0 (readied c.in_ok-group.group c.in_ok-plan.plan.changes (timestamp_of c.args.stamp.now)) (steps_are c.in_ok-group.group (write_refusals c.args.start c.args.count) write_behind c.args.name.now c.in_ok-plan.plan (timestamp_of c.args.stamp.now) c.in_ok-plan.ensures (few_behind c.in_ok-plan.ensures.entry)) (rw c.timestamp-timestamp.ensures at c.in_err-ready.ensures.refused)))))
+    (unwritten_come (looking c.args.start c.args.count) work c.args.named (timestamp_of c.args.stamp.now) c.args.name.now (write_request c.args.name.now c.args.start c.args.count) c.read_group.ensures.reads c.in_ok-group.group c.in_err-ready.field-0.0 c.in_ok-group.ensures.read (not_ready (looking c.args.start c.args.count) work c.args.named (timestamp_of c.args.stamp.now) c.args.name.now (write_request c.args.name.now c.args.start c.args.count) c.read_group.ensures.reads c.in_ok-group.group c.in_err-ready.field-0.0 (readied c.in_ok-group.group c.in_ok-plan.plan.changes (timestamp_of c.args.stamp.now)) (steps_are c.in_ok-group.group (write_refusals c.args.start c.args.count) write_behind c.args.name.now c.in_ok-plan.plan (timestamp_of c.args.stamp.now) c.in_ok-plan.ensures (few_behind c.in_ok-plan.ensures.entry)) (rw c.timestamp-timestamp.ensures at c.in_err-ready.ensures.refused))) c.in_ok-group.ensures.read.calls))
 
 pub look-requires-clause-fits : goal.look-requires-clause-fits
 look-requires-clause-fits g c =
@@ -73,9 +74,13 @@ returns-in_err-beside-clause-written g c =
     let from = read_still old middle c.read_group.ensures.reads.same_sizes c.read_group.ensures.reads.same_held g.B.Bay.tells c.in_ok-group.group c.in_ok-group.ensures.from in
     rw (failed.1, failed.2)
     (unfit_as work input c.args.named timestamp c.args.name.now c.args.start c.args.count c.in_err-beside.field-0.0
-    (unfit_came work input c.args.named timestamp c.args.name.now c.args.start c.args.count refl (reads_then c.read_group.ensures.reads c.look.ensures.reads.reads) c.in_err-beside.field-0.0
+    (unfit_looked work input c.args.named timestamp c.args.name.now c.args.start c.args.count refl (reads_then c.read_group.ensures.reads c.look.ensures.reads.reads) c.in_err-beside.field-0.0
     (look_came g.B.Bay.tells old middle looked c.read_group.ensures.reads c.read_group.ensures.reads_rise c.read_group.ensures.writes_rise c.look.ensures.reads c.args.named timestamp c.args.name.now c.args.start c.args.count c.in_ok-group.group
-    c.in_ok-group.ensures.read made.planned c.in_ok-plan.plan is made.volume_is from c.in_err-beside.field-0.0 c.in_err-beside.ensures.unseen)))
+    c.in_ok-group.ensures.read made.planned c.in_ok-plan.plan is made.volume_is from c.in_err-beside.field-0.0 c.in_err-beside.ensures.unseen)
+    (look_calls g.B.Bay.tells old middle looked c.read_group.ensures.reads c.read_group.ensures.reads_rise c.read_group.ensures.writes_rise c.look.ensures.reads c.args.named timestamp c.args.name.now c.args.start c.args.count c.in_ok-group.group
+    c.in_ok-group.ensures.read made.planned c.in_ok-plan.plan is made.volume_is from c.in_err-beside.field-0.0 c.in_err-beside.ensures.unseen
+    (looked_calls g.B.Bay.tells old middle looked c.read_group.ensures.reads.same_sizes c.look.ensures.reads.reads.same_sizes c.in_ok-group.ensures.read.calls timestamp c.args.name.now c.args.start c.args.count c.in_ok-group.group made.planned
+    c.in_ok-plan.plan.view made.volume_is (λ none. c.look.ensures.idle (parity_plain c.args.start c.args.count c.in_ok-group.group c.args.name.now c.in_ok-plan.plan is none))))))
 
 pub read_first-requires : goal.read_first-requires
 read_first-requires g c = c.in_ok-beside.ensures.beside.some
@@ -96,7 +101,10 @@ returns-in_err-room-clause-written g c =
     rw (failed.1, failed.2)
     (payload_came work input c.args.named timestamp c.args.name.now c.args.start c.args.count c.in_ok-group.group made.planned pieces are
     (look_since g.B.Bay.tells old middle looked c.read_group.ensures.reads c.read_group.ensures.reads_rise c.read_group.ensures.writes_rise c.look.ensures.reads c.args.named timestamp c.args.name.now c.args.start c.args.count c.in_ok-group.group
-    c.in_ok-group.ensures.read made.planned) (reads_then c.read_group.ensures.reads c.look.ensures.reads.reads) c.in_err-room.field-0.0 c.in_err-room.ensures.fault)
+    c.in_ok-group.ensures.read made.planned) (reads_then c.read_group.ensures.reads c.look.ensures.reads.reads)
+    (looked_calls g.B.Bay.tells old middle looked c.read_group.ensures.reads.same_sizes c.look.ensures.reads.reads.same_sizes c.in_ok-group.ensures.read.calls timestamp c.args.name.now c.args.start c.args.count c.in_ok-group.group made.planned
+    c.in_ok-plan.plan.view made.volume_is (λ none. c.look.ensures.idle (parity_plain c.args.start c.args.count c.in_ok-group.group c.args.name.now c.in_ok-plan.plan is none)))
+    c.in_err-room.field-0.0 c.in_err-room.ensures.fault)
 
 pub write_array-requires-clause-from : goal.write_array-requires-clause-from
 write_array-requires-clause-from g c =
@@ -145,3 +153,6 @@ returns-clause-written g c =
     kept_values c.args.start c.args.count group word plan is g.B.Bay.tells middle looked new from floored c.look.ensures.reads.never_falls c.write_array.ensures.goes.reads_rise beside.kept c.in_ok-beside.ensures.values timestamp any_plan
     (same_volume group timestamp word (write_request word c.args.start c.args.count) any_plan made.planned ∙ made.volume_is) told image written sure)
     c.write_array.ensures.goes c.write_array.ensures.done.0 c.write_array.result (rw (c.timestamp-timestamp.ensures, c.deref_mut.ensures.value) at c.write_array.ensures.done.1) c.write_array.ensures.unfailed
+    (written_calls g.B.Bay.tells old middle looked c.read_group.ensures.reads.same_sizes c.look.ensures.reads.reads.same_sizes read.calls timestamp word c.args.start c.args.count group made.planned
+    plan.view made.volume_is (λ none. c.look.ensures.idle (parity_plain c.args.start c.args.count group word plan is none))
+    new beside.each (λ none. ((lies_there c.args.start c.args.count group word plan is beside c.in_ok-beside.ensures.beside).plain none).0) c.write_array.ensures.calls)
