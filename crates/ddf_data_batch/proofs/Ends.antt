@@ -1,5 +1,5 @@
 -- A line is an event of its history of data: at its end, and where a stop cuts it.
-use Rattle.std.proofs.Common.{◌≡◌, ◌∙◌, inl, inr, ℕ, suc, zero, false, List, Option, refl, sym, ap, subst}
+use Rattle.std.proofs.Common.{◌≡◌, ◌∙◌, inl, inr, ℕ, suc, zero, false, List, Option, sym, ap, subst}
 use Rattle.ddf_bytes.specs.declared.stamp.Stamp.{Stamp}
 use Rattle.ddf_bytes.specs.Streams.{SourceState}
 use Rattle.ddf_bay.specs.ReadsOnly.{ReadsOnly}
@@ -8,7 +8,6 @@ use Rattle.ddf_bay.specs.State.{BayState}
 use Rattle.ddf_words.specs.Traits.{traits_of}
 use Rattle.ddf_words.specs.Words.{Word}
 use Rattle.ddf_words.specs.declared.command.Command.{Command}
-use Rattle.ddf_words.specs.declared.command.Command.TheVariants as commands
 use Rattle.ddf_words.proofs.Commands.{same_command}
 use Rattle.ddf_answer.specs.Call.{Answer}
 use Rattle.ddf_data_events.specs.Calls.{Call, exit_of}
@@ -16,9 +15,9 @@ use Rattle.ddf_data_events.specs.Events.{KeepsOn, Resumes}
 use Rattle.ddf_data_events.specs.Events.Event.{Cut, Ended}
 use Rattle.ddf_data_events.specs.Moments.{KeepsAll, Moment}
 use Rattle.ddf_batch.specs.Line.{IsLineRun, Point}
-use Rattle.ddf_data_batch.specs.Calls.{Came, IsUnwritten, LineCall, Takes, call_of, own_call}
-use Rattle.ddf_data_batch.specs.Calls.LineCall.{Beside, Own, Unwritten}
+use Rattle.ddf_data_batch.specs.Calls.{IsUnwritten, LineCall, call_of}
 use Rattle.ddf_data_batch.specs.Lines.{CutsLine, EndsLine}
+use Rattle.ddf_data_batch.proofs.Own.{of_line}
 
 -- ---- lines that write nothing
 
@@ -35,25 +34,6 @@ module _ {B : Type 0} {tells : Type 0} (told : tells) (disks : B → BayState B)
   IsLaw = (start : Moment guid B) → KeepsAll disks start → (events : ℕ) → KeepsOn told disks tells_bytes streams guid events start
 
   module _ (stamp : Stamp) (group : Option (List ℕ)) (old : Moment guid B) (exit : B) (answer : Answer) where
-    -- ---- a line's call ends on the bay that the line left
-
-    own_exit : (command : Command) (came : Came told disks tells_bytes streams stamp group guid old exit command answer) (takes : Takes told disks tells_bytes streams stamp group guid old exit command answer came)
-        → exit_of told disks tells_bytes streams guid (own_call told disks tells_bytes streams stamp group guid old exit command answer came takes) ≡ exit
-    own_exit commands.Assemble came takes = refl
-    own_exit (commands.Change wish) came (inl takes) = refl
-    own_exit (commands.Change wish) came (inr accepts) = refl
-    own_exit (commands.Resync name) came takes = refl
-    own_exit (commands.Rebuild name) came takes = refl
-    own_exit (commands.Copyback name slot) came takes = refl
-    own_exit (commands.Import other) came takes = refl
-    own_exit command came takes = absurd takes
-
-    line_exit : (line : LineCall told disks tells_bytes streams stamp group guid old exit answer)
-        → exit_of told disks tells_bytes streams guid (call_of told disks tells_bytes streams stamp group guid old exit answer line) ≡ exit
-    line_exit (Own command came takes) = own_exit command came takes
-    line_exit (Beside call same_exit) = same_exit
-    line_exit (Unwritten reads) = refl
-
     -- ---- the moment behind it
 
     module _ (law : IsLaw) (line : LineCall told disks tells_bytes streams stamp group guid old exit answer) (all : KeepsAll disks old) where
@@ -62,7 +42,7 @@ module _ {B : Type 0} {tells : Type 0} (told : tells) (disks : B → BayState B)
 
       pub line_ends : (disks exit).tells_left → (disks exit).sizes ≡ (disks old.bay).sizes → EndsLine told disks tells_bytes streams guid stamp group old exit answer line (KeepsAll disks)
       line_ends tells_left same_sizes =
-          let same = line_exit line in
+          let same = (of_line told disks tells_bytes streams stamp group guid old exit answer line).same_exit in
           let tells_there : (disks (exit_of told disks tells_bytes streams guid call)).tells_left = subst (λ (bay : B). (disks bay).tells_left) (sym same) tells_left in
           let on = (law old all (suc zero)).1 (Ended call tells_there (ap (λ (bay : B). (disks bay).sizes) same ∙ same_sizes)) in
           (on.0, record { comes = on.1.comes; is_bay = on.1.is_bay ∙ same; is_promised = on.1.is_promised; is_floor = on.1.is_floor }, on.2, on.3)
@@ -71,6 +51,6 @@ module _ {B : Type 0} {tells : Type 0} (told : tells) (disks : B → BayState B)
           → CutsLine told disks tells_bytes streams guid stamp group old exit answer line bay (KeepsAll disks)
       line_cut image was_left bay resumes =
           let left_there : (disks (exit_of told disks tells_bytes streams guid call)).left_since (disks old.bay).moment image =
-          subst (λ (one : B). (disks one).left_since (disks old.bay).moment image) (sym (line_exit line)) was_left in
+          subst (λ (one : B). (disks one).left_since (disks old.bay).moment image) (sym (of_line told disks tells_bytes streams stamp group guid old exit answer line).same_exit) was_left in
           let on = (law old all (suc zero)).1 (Cut call image left_there bay resumes) in
           (on.0, on.1, on.2, on.3)

@@ -1,3 +1,3 @@
-pub mod Done
+pub mod Own
 pub mod Ends
 pub mod Through

@@ -1,5 +1,5 @@
 -- What the lines of a batch came to, as calls of a history of a group and of its data.
-use Rattle.std.specs.Prelude.{◌≡◌, ◌⊎◌, ℕ, Bool, true, false, List, length, Option, Some, Result, Ok, option_to_list, IsTrue}
+use Rattle.std.specs.Prelude.{◌≡◌, ◌⊎◌, ℕ, Bool, false, List, length, Option, Some, Result, Ok, option_to_list, IsTrue}
 use Rattle.std.proofs.Common.{inl, inr}
 use Rattle.ddf_bytes.specs.declared.stamp.Stamp.{Stamp}
 use Rattle.ddf_bytes.specs.Stamps.{timestamp_of}
@@ -23,12 +23,11 @@ use Rattle.ddf_answer.specs.declared.failure.Failure.{Failure}
 use Rattle.ddf_answer.specs.Call.{Answer, Work, work_of}
 use Rattle.ddf_answer.specs.Ends.{is_unwritten}
 use Rattle.ddf_group_commands.specs.Assemble.{no_change}
-use Rattle.ddf_group_commands.specs.Change.{HasChanged, Request, is_done, steps_of}
+use Rattle.ddf_group_commands.specs.Change.{HasChanged, Request, TakesGroup, steps_of}
 use Rattle.ddf_group_commands.specs.Requests.{request_for}
 use Rattle.ddf_import_command.specs.Import.{HasImported, import_asked}
 use Rattle.ddf_write_commands.specs.Planned.{IsPlanned}
 use Rattle.ddf_write_commands.specs.Resync.{HasResyncedArray, resync_request}
-use Rattle.ddf_write_commands.specs.Write.{is_written}
 use Rattle.ddf_group_commands.specs.Requests.{linux_members}
 use Rattle.ddf_rebuild_command.specs.Asked.{rebuild_request}
 use Rattle.ddf_rebuild_command.specs.CopiedBack.{HasCopiedBack}
@@ -37,8 +36,8 @@ use Rattle.ddf_rebuild_command.specs.Rebuilt.{HasRebuiltArray}
 use Rattle.ddf_command.specs.Run.{IsCommandDone}
 use Rattle.ddf_data_calls.specs.Calls.{MayAsk}
 use Rattle.ddf_data_calls.specs.Agreed.{DoDisksAgree}
-use Rattle.ddf_data_events.specs.Calls.{AcceptCall, Call, ChangeCall, CopybackCall, Finds, JoinCall, OtherCall, RebuildCall, ResyncCall}
-use Rattle.ddf_data_events.specs.Calls.Call.{Accepts, Changes, Copies, Joins, Others, Reads, Rebuilds, Resyncs, Writes}
+use Rattle.ddf_data_events.specs.Calls.{AcceptCall, Call, ChangeCall, CopybackCall, Finds, JoinCall, OtherCall, RebuildCall, ResyncCall, course_of, done_in}
+use Rattle.ddf_data_events.specs.Calls.Call.{Accepts, Changes, Copies, Joins, Others, Reads, Rebuilds, Resyncs}
 use Rattle.ddf_data_events.specs.Joins.{HaveJoiningFloors, IsNonePromised}
 use Rattle.ddf_data_events.specs.Moments.{Moment}
 use Rattle.ddf_words.specs.Lines.{AsksFor, IsLine}
@@ -121,11 +120,15 @@ module _ {B : Type 0} {tells : Type 0} (told : tells) (disks : B → BayState B)
     counts = takes.counts;
   }
 
-  -- It rebuilds an array, and wasn't refused.
-  pub record TakesRebuild (name : List ℕ) (outcome : Result ℕ Failure) (has : HasRebuiltArray work group (timestamp_of stamp) name outcome) : Type 0 where
-    pub finds : Finds told disks tells_bytes streams guid old has.taken.left has.taken.newest group
+  -- It takes the group by what it asks of the one that it finds, and wasn't refused.
+  pub record TakesSteps {asked : Request} {done : Bool} (taken : TakesGroup work group (timestamp_of stamp) asked done) (request : GroupValue → Request) : Type 0 where
+    pub finds : Finds told disks tells_bytes streams guid old taken.left taken.newest group
     pub steps : List Step
-    pub are_asked : steps_of finds.found (timestamp_of stamp) (rebuild_request name (linux_members finds.found)) ≡ Ok steps
+    pub are_asked : steps_of finds.found (timestamp_of stamp) (request finds.found) ≡ Ok steps
+
+  -- It rebuilds an array.
+  abbrev pub TakesRebuild : (name : List ℕ) (outcome : Result ℕ Failure) → HasRebuiltArray work group (timestamp_of stamp) name outcome → Type 0
+  TakesRebuild name outcome has = TakesSteps has.taken (λ found. rebuild_request name (linux_members found))
 
   abbrev pub rebuild_call : (name : List ℕ) (outcome : Result ℕ Failure) (has : HasRebuiltArray work group (timestamp_of stamp) name outcome) → TakesRebuild name outcome has
       → RebuildCall told disks tells_bytes streams guid old
@@ -141,11 +144,9 @@ module _ {B : Type 0} {tells : Type 0} (told : tells) (disks : B → BayState B)
     are_asked = takes.are_asked;
   }
 
-  -- A position of an array goes back by it, and it wasn't refused.
-  pub record TakesCopyback (name : List ℕ) (slot : ℕ) (outcome : Result ℕ Failure) (has : HasCopiedBack work group (timestamp_of stamp) name slot outcome) : Type 0 where
-    pub finds : Finds told disks tells_bytes streams guid old has.taken.left has.taken.newest group
-    pub steps : List Step
-    pub are_asked : steps_of finds.found (timestamp_of stamp) (copyback_request (length (disks old.bay).sizes) name slot (linux_members finds.found)) ≡ Ok steps
+  -- A position of an array goes back by it.
+  abbrev pub TakesCopyback : (name : List ℕ) (slot : ℕ) (outcome : Result ℕ Failure) → HasCopiedBack work group (timestamp_of stamp) name slot outcome → Type 0
+  TakesCopyback name slot outcome has = TakesSteps has.taken (λ found. copyback_request (length (disks old.bay).sizes) name slot (linux_members found))
 
   abbrev pub copyback_call : (name : List ℕ) (slot : ℕ) (outcome : Result ℕ Failure) (has : HasCopiedBack work group (timestamp_of stamp) name slot outcome) → TakesCopyback name slot outcome has
       → CopybackCall told disks tells_bytes streams guid old
@@ -239,12 +240,4 @@ module _ {B : Type 0} {tells : Type 0} (told : tells) (disks : B → BayState B)
 -- A call was done: all of its changes are acknowledged then. One that doesn't change the group has none.
 module _ {B : Type 0} {tells : Type 0} (told : tells) (disks : B → BayState B) {S : Type 0} (tells_bytes : Type 0) (streams : S → SourceState) (guid : List ℕ) {old : Moment guid B} where
   abbrev pub was_done : Call told disks tells_bytes streams guid old → Bool
-  was_done (Changes call) = is_done call.outcome
-  was_done (Accepts accept) = is_done accept.call.outcome
-  was_done (Resyncs call) = is_done call.outcome
-  was_done (Writes call) = is_written call.outcome
-  was_done (Rebuilds call) = is_done call.outcome
-  was_done (Copies call) = is_done call.outcome
-  was_done (Joins call) = is_done call.join.outcome
-  was_done (Others call) = true
-  was_done (Reads exit reads) = true
+  was_done call = done_in told disks tells_bytes streams guid (course_of told disks tells_bytes streams guid call)

@@ -27,7 +27,8 @@ use Rattle.ddf_data_calls.proofs.Called.{TookGroup, took_group}
 use Rattle.ddf_data_calls.specs.Agreed.{DoDisksAgree}
 use Rattle.ddf_data_calls.specs.Promised.{counted}
 use Rattle.ddf_data_calls.proofs.Accepts.{accepted_counts}
-use Rattle.ddf_data_events.specs.Calls.{AcceptCall, ChangeCall, Finds, once_accepted, once_changed}
+use Rattle.ddf_data_events.specs.Calls.{AcceptCall, ChangeCall, Finds, by_accept, by_change, once_accepted, once_changed}
+use Rattle.ddf_data_events.specs.Calls.Course.{Stepping}
 use Rattle.ddf_data_events.specs.Moments.{KeepsAll, Moment}
 use Rattle.ddf_data_events.proofs.Bays.{AreBays, held_sectors, sectors}
 use Rattle.ddf_bay.specs.Moments.{StopsLeave}
@@ -36,6 +37,7 @@ use Rattle.ddf_data_calls.specs.Floors.{HaveFloorsIn}
 use Rattle.ddf_data_calls.proofs.First.{IsCalled}
 use Rattle.ddf_data_calls.proofs.Floored.{writing_own}
 use Rattle.ddf_data_events.proofs.Floors.{by_held}
+use Rattle.ddf_data_events.proofs.Sound.{HasFloorsBehind, IsSound, floored_by, stepped_sound}
 use Rattle.ddf_write_commands.proofs.StepFloors.{readied_floors}
 
 -- Behind a change that was done an array that it created may have any bytes.
@@ -69,14 +71,14 @@ module _ {B : Type 0} {tells : Type 0} (told : tells) (disks : B → BayState B)
   took : TookGroup (disks old.bay) (disks call.exit) call.changed.taken.left call.changed.taken.newest call.named call.finds.found call.steps call.outcome
   took = took_group tells told (disks old.bay) (disks call.exit) call.named call.timestamp call.request call.outcome call.changed call.finds.found call.finds.is_found call.steps call.are_asked
 
-  pub change_keeps : KeepsBoth guid (disks old.bay) (disks call.exit) old.floor (Goes guid old.past (is_read call.changed.taken.left) call.finds.found (changes_in call.finds.found call.steps))
+  change_keeps : KeepsBoth guid (disks old.bay) (disks call.exit) old.floor (Goes guid old.past (is_read call.changed.taken.left) call.finds.found (changes_in call.finds.found call.steps))
       (Ends guid old.past (is_read call.changed.taken.left) call.finds.found (changes_in call.finds.found call.steps) (is_done call.outcome)) (Stays old.promises) (Stays old.promises)
   change_keeps =
       called.keeps_both guid (disks old.bay) (disks call.exit) old.past old.floor old.small call.changed.taken.left call.changed.taken.newest call.named call.finds.found call.steps call.outcome
       took call.finds.own call.finds.admitted (by_held guid disks are old.past old.floor old.bay all.floored call.finds.tells_left) call.timestamp call.request call.are_asked call.change call.is_change old.promises all.keeps call.may all.shows
       ((are old.bay).only_now) (λ image later left. (are call.exit).counts (disks old.bay).moment image later left) (λ image left. sectors disks are call.exit image left)
 
-  pub change_readied : readied call.finds.found (option_to_list call.change) call.timestamp ≡ Ok call.steps
+  change_readied : readied call.finds.found (option_to_list call.change) call.timestamp ≡ Ok call.steps
   change_readied =
       called.are guid (disks old.bay) (disks call.exit) old.past old.floor old.small call.changed.taken.left call.changed.taken.newest call.named call.finds.found call.steps call.outcome
       took call.finds.own call.finds.admitted (by_held guid disks are old.past old.floor old.bay all.floored call.finds.tells_left) call.timestamp call.request call.are_asked call.change call.is_change
@@ -96,13 +98,13 @@ module _ {B : Type 0} {tells : Type 0} (told : tells) (disks : B → BayState B)
   }
 
   -- The disks of members keep their floors.
-  pub change_floors : StopsLeave (disks old.bay) (disks call.exit) (λ image. HaveFloorsIn guid old.past (disks old.bay).sizes image old.floor)
+  change_floors : StopsLeave (disks old.bay) (disks call.exit) (λ image. HaveFloorsIn guid old.past (disks old.bay).sizes image old.floor)
   change_floors = stops_weaken (took).leaves (λ image writing slot number config since stays current.
       writing_own guid (disks old.bay) old.past old.floor old.promises call.changed.taken.left call.changed.taken.newest call.named call.finds.found called_group all.floored
       slot number config since stays current call.steps (readied_floors call.finds.found call.timestamp (option_to_list call.change) call.steps change_readied) (disks old.bay) image refl writing
       (all.floored slot number config since stays current (writing.before slot) (λ l. writing.is_left slot l)))
 
-  pub change_ends : (disks call.exit).tells_left → AreBoth guid old.floor (disks call.exit)
+  change_ends : (disks call.exit).tells_left → AreBoth guid old.floor (disks call.exit)
       (Ends guid old.past (is_read call.changed.taken.left) call.finds.found (changes_in call.finds.found call.steps) (is_done call.outcome))
       (λ promised. promised ≡ once_changed told disks tells_bytes streams guid call.change (is_done call.outcome) old.promises)
   change_ends tells_left =
@@ -110,6 +112,15 @@ module _ {B : Type 0} {tells : Type 0} (told : tells) (disks : B → BayState B)
       told disks tells_bytes streams call.change (is_done call.outcome)
       change_readied
       (change_keeps.ends tells_left)
+
+  change_floored : (whole : Bool) → HasFloorsBehind told disks tells_bytes streams guid are old all call.exit
+      (Ends guid old.past (is_read call.changed.taken.left) call.finds.found (changes_in call.finds.found call.steps) whole)
+  change_floored =
+      floored_by told disks tells_bytes streams guid are old all call.exit call.changed.taken.left call.finds.found (option_to_list call.change) call.timestamp call.steps change_readied change_floors
+
+  pub change_sound : IsSound told disks tells_bytes streams guid are old all (Stepping (by_change told disks tells_bytes streams guid call))
+  change_sound =
+      stepped_sound told disks tells_bytes streams guid are old all (by_change told disks tells_bytes streams guid call) (record { any_moment = change_keeps.any_moment; ends = change_ends }) refl change_floored
 
 -- ---- `accept`
 
@@ -128,7 +139,7 @@ module _ {B : Type 0} {tells : Type 0} (told : tells) (disks : B → BayState B)
       (record { all_kept = all.shows; admitted = finds.admitted; all_data = all.keeps; have_floors = by_held guid disks are old.past old.floor old.bay all.floored finds.tells_left }) array init asks ((are old.bay).held finds.tells_left)
       (held_sectors disks are old.bay finds.tells_left) agree (λ image left. sectors disks are exit image left) both
 
-  pub accept_ends : (accept : AcceptCall told disks tells_bytes streams guid old) → (disks accept.call.exit).tells_left → AreBoth guid old.floor (disks accept.call.exit)
+  accept_ends : (accept : AcceptCall told disks tells_bytes streams guid old) → (disks accept.call.exit).tells_left → AreBoth guid old.floor (disks accept.call.exit)
       (Ends guid old.past (is_read accept.call.changed.taken.left) accept.call.finds.found (changes_in accept.call.finds.found accept.call.steps) (is_done accept.call.outcome))
       (λ promised. promised ≡ once_accepted told disks tells_bytes streams guid accept (is_done accept.call.outcome))
   accept_ends accept tells_left = by (is_done accept.call.outcome) refl
@@ -141,3 +152,9 @@ module _ {B : Type 0} {tells : Type 0} (told : tells) (disks : B → BayState B)
           (accept.call.is_change ∙ ap (λ (change : Option Change). Ok (option_to_list change)) accept.is_accept) accept.agree done
           ((change_keeps told disks tells_bytes streams guid are old all accept.call).ends tells_left)
       by false done = (change_keeps told disks tells_bytes streams guid are old all accept.call).ends tells_left
+
+  pub accept_sound : (accept : AcceptCall told disks tells_bytes streams guid old) → IsSound told disks tells_bytes streams guid are old all (Stepping (by_accept told disks tells_bytes streams guid accept))
+  accept_sound accept =
+      stepped_sound told disks tells_bytes streams guid are old all (by_accept told disks tells_bytes streams guid accept)
+      (record { any_moment = (change_keeps told disks tells_bytes streams guid are old all accept.call).any_moment; ends = accept_ends accept }) refl
+      (change_floored told disks tells_bytes streams guid are old all accept.call)

@@ -33,13 +33,14 @@ use Rattle.ddf_history.specs.Scenes.{scene_of}
 use Rattle.ddf_history.proofs.Cutting.{given_back_kept, lost_kept}
 use Rattle.ddf_data_history.specs.Promised.{KeepsData, is_seat, seat_if, seats_in, with_promise}
 use Rattle.ddf_data_history.proofs.Steps.{by_loss, by_return}
-use Rattle.ddf_data_events.specs.Calls.{Call, EndsAt, HasComeTo, MayPromise, PromisesThen, exit_of}
+use Rattle.ddf_data_events.specs.Calls.{Call, EndsAt, HasComeTo, MayPromise, PromisesThen, course_of, exit_of}
 use Rattle.ddf_data_events.specs.Events.{IsAgreeing, Event, Follows, KeepsOn, Resumes}
 use Rattle.ddf_data_events.specs.Events.Event.{Agreed, Cut, Ended, Forgotten, Kept, Lost, Noticed, Refloored, Returned, Stopped}
 use Rattle.ddf_data_events.specs.Moments.{KeepsAll, Moment}
 use Rattle.ddf_data_events.proofs.Bays.{AreBays, held_sectors, sectors}
-use Rattle.ddf_data_events.proofs.Calls.{call_later, cuts, cuts_acked, cuts_floored, ends, ends_acked, ends_floored}
+use Rattle.ddf_data_events.proofs.Calls.{sound as sound_of}
 use Rattle.ddf_data_events.proofs.Floors.{by_image, by_slots}
+use Rattle.ddf_data_events.proofs.Sound.{cuts_acked, ends_acked}
 use Rattle.std.proofs.lemmas.Bool.{eqb-true}
 use Rattle.std.specs.Prelude.{slice_index}
 use Rattle.ddf_history.proofs.Sound.{groups_are_sound}
@@ -141,19 +142,19 @@ module _ {B : Type 0} {tells : Type 0} (told : tells) (disks : B → BayState B)
       → (disks (exit_of told disks tells_bytes streams guid call)).sizes ≡ (disks old.bay).sizes
       → HasCome old (exit_of told disks tells_bytes streams guid call) (EndsAt told disks tells_bytes streams guid call) (PromisesThen told disks tells_bytes streams guid call)
   ended old all call tells_left same_sizes =
-      let both = ends told disks tells_bytes streams guid are old all call tells_left in
+      let sound = sound_of told disks tells_bytes streams guid are old all call in
+      let both = sound.ends tells_left in
       record {
         now = both.now;
         promised = both.promised;
         comes = both.ends;
         is_so = both.is_so;
-        acked = ends_acked told disks tells_bytes streams guid are old all call both.now both.ends;
+        acked = ends_acked told disks tells_bytes streams guid are old all (course_of told disks tells_bytes streams guid call) both.now both.ends;
         keeps = record {
           shows = both.all_kept;
           keeps = both.all_data;
           floored = by_slots guid disks are both.now old.floor (exit_of told disks tells_bytes streams guid call) tells_left (disks old.bay).sizes same_sizes
-              (λ image left. ends_floored told disks tells_bytes streams guid are old all call both.now both.ends image
-              ((are (exit_of told disks tells_bytes streams guid call)).counts (disks old.bay).moment image (call_later told disks tells_bytes streams guid are old all call) left));
+              (λ image left. sound.ends_floored both.now both.ends image ((are (exit_of told disks tells_bytes streams guid call)).counts (disks old.bay).moment image sound.later left));
         };
       }
 
@@ -162,19 +163,19 @@ module _ {B : Type 0} {tells : Type 0} (told : tells) (disks : B → BayState B)
       → HasCome old bay (HasComeTo told disks tells_bytes streams guid call) (MayPromise told disks tells_bytes streams guid call)
   was_cut old all call image was_left bay resumes =
       let held_is : (disks bay).held ≡ image = resumes.is_left (disks bay).held ((are bay).held resumes.tells_left) in
-      let sound : AreSectors image = subst AreSectors held_is (held_sectors disks are bay resumes.tells_left) in
-      let both = cuts told disks tells_bytes streams guid are old all call image was_left sound in
+      let whole : AreSectors image = subst AreSectors held_is (held_sectors disks are bay resumes.tells_left) in
+      let sound = sound_of told disks tells_bytes streams guid are old all call in
+      let both = sound.cuts image was_left whole in
       record {
         now = both.now;
         promised = both.promised;
         comes = both.goes;
         is_so = both.may;
-        acked = cuts_acked told disks tells_bytes streams guid are old all call both.now both.goes;
+        acked = cuts_acked told disks tells_bytes streams guid are old all (course_of told disks tells_bytes streams guid call) both.now both.goes;
         keeps = resumed old bay (λ left. left ≡ image) resumes both.now both.promised
             (λ left same. subst (λ (one : Image). IsKept both.now (scene_of (disks old.bay).sizes one)) (sym same) both.is_kept)
             (λ left same. subst (λ (one : Image). KeepsData guid both.now old.floor one both.promised) (sym same) both.keeps)
-            (λ left same. subst (λ (one : Image). HaveFloorsIn guid both.now (disks old.bay).sizes one old.floor) (sym same)
-            (cuts_floored told disks tells_bytes streams guid are old all call both.now both.goes image was_left));
+            (λ left same. subst (λ (one : Image). HaveFloorsIn guid both.now (disks old.bay).sizes one old.floor) (sym same) (sound.cuts_floored both.now both.goes image was_left));
       }
 
   pub lost_keeps : (old : Moment guid B) → KeepsAll disks old → (slot : ℕ) → old.past.changes.own_from ≤ old.past.changes.acked

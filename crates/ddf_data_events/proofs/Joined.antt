@@ -1,5 +1,5 @@
 -- A call by which another group joins keeps the history of its group and its data.
-use Rattle.std.proofs.Common.{⊎_elim, inl, inr, ℕ, Bool, List, Some, arith}
+use Rattle.std.proofs.Common.{⊎_elim, inl, inr, ℕ, Bool, List, Some, refl, arith}
 use Rattle.ddf_bytes.specs.Streams.{SourceState}
 use Rattle.ddf_bay.specs.Sectors.{Image}
 use Rattle.ddf_bay.specs.State.{BayState}
@@ -12,11 +12,13 @@ use Rattle.ddf_group_commands.specs.Change.{is_done}
 use Rattle.ddf_command.specs.History.{kept_by_join}
 use Rattle.ddf_data_calls.specs.Calls.{KeepsBoth}
 use Rattle.ddf_data_calls.specs.Floors.{HaveFloorsIn}
-use Rattle.ddf_data_events.specs.Calls.{JoinCall, joins_in}
+use Rattle.ddf_data_events.specs.Calls.{JoinCall, by_join, joins_in}
+use Rattle.ddf_data_events.specs.Calls.Course.{Stepping}
 use Rattle.ddf_data_events.specs.Moments.{KeepsAll, Moment}
 use Rattle.ddf_data_events.proofs.Bays.{AreBays, sectors}
 use Rattle.ddf_data_events.proofs.JoinKept as kept
 use Rattle.ddf_data_events.proofs.JoinKept.{IsImportOf}
+use Rattle.ddf_data_events.proofs.Sound.{IsSound, stepped_sound}
 
 module _ {B : Type 0} {tells : Type 0} (told : tells) (disks : B → BayState B) {S : Type 0} (tells_bytes : Type 0) (streams : S → SourceState) (guid : List ℕ) (are : AreBays disks)
     (old : Moment guid B) (all : KeepsAll disks old) (call : JoinCall told disks tells_bytes streams guid old) where
@@ -49,16 +51,19 @@ module _ {B : Type 0} {tells : Type 0} (told : tells) (disks : B → BayState B)
         keeps = kept_by_join told disks guid (record { past = old.past; bay = old.bay }) join all.shows;
       }
 
-  pub join_keeps : KeepsBoth guid (disks old.bay) (disks call.join.exit) old.floor (Goes guid old.past (is_read call.join.imported.first.left) call.join.group (joins_in told disks tells_bytes streams guid call))
+  join_keeps : KeepsBoth guid (disks old.bay) (disks call.join.exit) old.floor (Goes guid old.past (is_read call.join.imported.first.left) call.join.group (joins_in told disks tells_bytes streams guid call))
       (Ends guid old.past (is_read call.join.imported.first.left) call.join.group (joins_in told disks tells_bytes streams guid call) (is_done call.join.outcome)) (Stays old.promises) (Stays old.promises)
   join_keeps =
       kept.join_keeps guid (disks old.bay) (disks call.join.exit) old.past old.floor old.promises call.join.group call.join.joining call.join.timestamp call.join.made call.join.imported.first.left (is_done call.join.outcome)
       took ((are old.bay).only_now) (λ image later left. (are call.join.exit).counts (disks old.bay).moment image later left) (λ image left. sectors disks are call.join.exit image left)
 
   -- The disks of members have their floors, however far it came.
-  pub join_floored : (whole : Bool) (now : Past (groups guid)) → Ends guid old.past (is_read call.join.imported.first.left) call.join.group (joins_in told disks tells_bytes streams guid call) whole now
+  join_floored : (whole : Bool) (now : Past (groups guid)) → Ends guid old.past (is_read call.join.imported.first.left) call.join.group (joins_in told disks tells_bytes streams guid call) whole now
       → (image : Image) → (disks call.join.exit).left_since (disks old.bay).moment image → HaveFloorsIn guid now (disks old.bay).sizes image old.floor
   join_floored whole now ends image was_left =
       kept.join_floored guid (disks old.bay) (disks call.join.exit) old.past old.floor old.promises call.join.group call.join.joining call.join.timestamp call.join.made call.join.imported.first.left (is_done call.join.outcome)
       took whole now ends image
       (⊎_elim (λ before. inl ((are old.bay).only_now image before)) inr ((took).leaves.since (disks old.bay).moment image (omega arith) was_left))
+
+  pub join_sound : IsSound told disks tells_bytes streams guid are old all (Stepping (by_join told disks tells_bytes streams guid call))
+  join_sound = stepped_sound told disks tells_bytes streams guid are old all (by_join told disks tells_bytes streams guid call) join_keeps refl join_floored

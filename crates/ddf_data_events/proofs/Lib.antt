@@ -1,5 +1,6 @@
 pub mod Bays
 pub mod Floors
+pub mod Sound
 pub mod Others
 pub mod Changed
 pub mod Blocks

@@ -1,7 +1,7 @@
 -- The calls of a history of a group and of its data: those that the program makes, by what it promises of them.
-use Rattle.std.specs.Prelude.{◌≡◌, ◌&&◌, ℕ, Bool, true, false, List, ◌++◌, Option, Some, Result, Ok, length, option_to_list}
+use Rattle.std.specs.Prelude.{◌≡◌, ◌&&◌, ℕ, ◌<◌, Bool, true, false, List, [], ◌++◌, Option, Some, Result, Ok, length, option_to_list, IsTrue, slice_index_or}
 use Rattle.ddf_bytes.specs.Streams.{SourceState}
-use Rattle.ddf_bay.specs.ReadsOnly.{ReadsOnly}
+use Rattle.ddf_bay.specs.ReadsOnly.{LookFailed, ReadsOnly}
 use Rattle.ddf_bay.specs.Sectors.{Image, IsLeft}
 use Rattle.ddf_bay.specs.State.{BayState}
 use Rattle.ddf_config.specs.Configuration.{Configuration}
@@ -14,6 +14,7 @@ use Rattle.ddf_history.specs.Groups.{groups, has_current}
 use Rattle.ddf_history.specs.Issued.{IsSince, Past}
 use Rattle.ddf_seats.specs.Group.{GroupValue}
 use Rattle.ddf_assembly.specs.Group.{group_of}
+use Rattle.ddf_assembly.specs.Slots.{newest_from}
 use Rattle.ddf_recovery.specs.Recovery.{config_recovered}
 use Rattle.ddf_steps.specs.Steps.{Step}
 use Rattle.ddf_history_steps.specs.Going.{Ends, Goes, IsAdmitted, changes_in}
@@ -22,7 +23,7 @@ use Rattle.ddf_data_history.specs.Carried.{Stays}
 use Rattle.ddf_data_history.specs.Promised.{with_promise}
 use Rattle.ddf_answer.specs.declared.failure.Failure.{Failure}
 use Rattle.ddf_answer.specs.Call.{input_of, work_of}
-use Rattle.ddf_group_commands.specs.Change.{HasChanged, Request, is_done, steps_of}
+use Rattle.ddf_group_commands.specs.Change.{HasChanged, Request, TakesGroup, is_done, steps_of}
 use Rattle.ddf_write_commands.specs.Planned.{IsPlanned}
 use Rattle.ddf_write_commands.specs.Resync.{HasResyncedArray, resync_request}
 use Rattle.ddf_write_commands.specs.Write.{HasWrittenArray, Outcome, is_written, write_request}
@@ -49,6 +50,80 @@ module _ {B : Type 0} {tells : Type 0} (told : tells) (disks : B → BayState B)
     pub own : found.config.group ≡ guid
     pub admitted : IsAdmitted guid old.past (disks old.bay) left found
 
+  -- ---- what calls come to
+
+  -- A call that takes the group: the bay that it left, the slots that it left out, each only where a call of this call failed on it, the group that it found by
+  -- the others, the configurations that it issues, whether it was done, and what may be promised on its way and behind it.
+  pub record Stepped (old : Moment guid B) : Type 1 where
+    pub exit : B
+    pub left : List Bool
+    pub every_slot : length left ≡ length (disks old.bay).sizes
+    pub failed : (slot : ℕ) → slot < length left → IsTrue (slice_index_or left slot false) → LookFailed (disks old.bay) (disks exit) slot
+    pub newest : List (Option Newest)
+    pub read : newest ≡ newest_from (disks old.bay) 0 left
+    pub named : Option (List ℕ)
+    pub finds : Finds old left newest named
+    pub issued : List Configuration
+    pub done : Bool
+    pub may_promise : Promises → Type 0
+    pub promises_then : Promises → Type 0
+
+  -- one that takes it by what it asks of it, for these steps
+  abbrev pub stepped : {old : Moment guid B} {named : Option (List ℕ)} {timestamp : ℕ} {request : Request} {done : Bool} (exit : B)
+      (taken : TakesGroup (work_of tells (disks old.bay) (disks exit)) named timestamp request done) → Finds old taken.left taken.newest named → List Step
+      → (may_promise promises_then : Promises → Type 0) → Stepped old
+  stepped {named = named} {done = done} exit taken finds steps may_promise promises_then = record {
+    exit = exit;
+    left = taken.left;
+    every_slot = taken.every_slot;
+    failed = taken.failed;
+    newest = taken.newest;
+    read = taken.read told;
+    named = named;
+    finds = finds;
+    issued = changes_in finds.found steps;
+    done = done;
+    may_promise = may_promise;
+    promises_then = promises_then;
+  }
+
+  -- It takes the group; or its history stays as it is, and it left this bay.
+  pub data Course (old : Moment guid B) : Type 1 where
+    Stepping : Stepped old → Course old
+    Passing : (exit : B) → Course old
+
+  module _ {old : Moment guid B} where
+    abbrev pub exit_in : Course old → B
+    exit_in (Stepping by) = by.exit
+    exit_in (Passing exit) = exit
+
+    -- how far the changes may have come at a moment since its entry, and what may be promised then
+    abbrev pub comes_in : Course old → Past (groups guid) → Type 0
+    comes_in (Stepping by) now = Goes guid old.past (is_read by.left) by.finds.found by.issued now
+    comes_in (Passing exit) now = now ≡ old.past
+
+    abbrev pub may_promise_in : Course old → Promises → Type 0
+    may_promise_in (Stepping by) promised = by.may_promise promised
+    may_promise_in (Passing exit) promised = Stays old.promises promised
+
+    -- where they end
+    abbrev pub ends_in : Course old → Past (groups guid) → Type 0
+    ends_in (Stepping by) now = Ends guid old.past (is_read by.left) by.finds.found by.issued by.done now
+    ends_in (Passing exit) now = now ≡ old.past
+
+    abbrev pub promises_in : Course old → Promises → Type 0
+    promises_in (Stepping by) promised = by.promises_then promised
+    promises_in (Passing exit) promised = Stays old.promises promised
+
+    -- the configurations that it issues, and whether all of them are acknowledged at its end
+    abbrev pub issued_in : Course old → List Configuration
+    issued_in (Stepping by) = by.issued
+    issued_in (Passing exit) = []
+
+    abbrev pub done_in : Course old → Bool
+    done_in (Stepping by) = by.done
+    done_in (Passing exit) = true
+
   -- ---- a command that changes the group
 
   -- It wasn't refused. Its one change, if it makes one, has what it asks for.
@@ -71,6 +146,10 @@ module _ {B : Type 0} {tells : Type 0} (told : tells) (disks : B → BayState B)
   once_changed (Some (Create created array)) true promises = with_promise promises created (Some any_bytes)
   once_changed change done promises = promises
 
+  abbrev pub by_change : {old : Moment guid B} → ChangeCall old → Stepped old
+  by_change {old = old} call =
+      stepped call.exit call.changed.taken call.finds call.steps (Stays old.promises) (λ promised. promised ≡ once_changed call.change (is_done call.outcome) old.promises)
+
   -- An `accept` of an array of which the bytes agree: once it is done, what its blocks have counts from then on.
   pub record AcceptCall (old : Moment guid B) : Type 0 where
     pub call : ChangeCall old
@@ -82,6 +161,10 @@ module _ {B : Type 0} {tells : Type 0} (told : tells) (disks : B → BayState B)
   abbrev pub once_accepted : {old : Moment guid B} → (accept : AcceptCall old) → (done : Bool) → Promises
   once_accepted {old = old} accept true = counted accept.array accept.agree.volume (disks accept.call.exit).held old.promises
   once_accepted {old = old} accept false = old.promises
+
+  abbrev pub by_accept : {old : Moment guid B} → AcceptCall old → Stepped old
+  by_accept {old = old} accept =
+      stepped accept.call.exit accept.call.changed.taken accept.call.finds accept.call.steps (Stays old.promises) (λ promised. promised ≡ once_accepted accept (is_done accept.call.outcome))
 
   -- ---- commands on the blocks of an array
 
@@ -101,6 +184,10 @@ module _ {B : Type 0} {tells : Type 0} (told : tells) (disks : B → BayState B)
   once_resynced {old = old} call true = counted call.plan.entry.0 call.plan.volume (disks call.exit).held old.promises
   once_resynced {old = old} call false = old.promises
 
+  abbrev pub by_resync : {old : Moment guid B} → ResyncCall old → Stepped old
+  by_resync {old = old} call =
+      stepped call.exit call.resynced.taken call.finds (call.plan.first ++ call.plan.last) (Stays old.promises) (λ promised. promised ≡ once_resynced call (call.counts && is_done call.outcome))
+
   -- A call of `write` that took bytes, all of its blocks or of the first pieces, and wasn't refused.
   pub record WriteCall (old : Moment guid B) : Type 0 where
     pub exit : B
@@ -118,6 +205,11 @@ module _ {B : Type 0} {tells : Type 0} (told : tells) (disks : B → BayState B)
     pub finds : Finds old wrote.taken.left wrote.taken.newest named
     pub plan : IsPlanned finds.found timestamp word (write_request word start count)
 
+  abbrev pub by_write : {old : Moment guid B} → WriteCall old → Stepped old
+  by_write {old = old} call =
+      stepped call.exit call.wrote.taken call.finds (call.plan.first ++ call.plan.last) (MayBeWritten call.plan.entry.0 call.start call.sectors old.promises)
+      (IsWrittenOf (is_written call.outcome) call.plan.entry.0 call.start call.sectors old.promises)
+
   -- A call of `rebuild` that wasn't refused, whether a position of its array was out of sync or none.
   pub record RebuildCall (old : Moment guid B) : Type 0 where
     pub exit : B
@@ -129,6 +221,9 @@ module _ {B : Type 0} {tells : Type 0} (told : tells) (disks : B → BayState B)
     pub finds : Finds old rebuilt.taken.left rebuilt.taken.newest named
     pub steps : List Step
     pub are_asked : steps_of finds.found timestamp (rebuild_request word (linux_members finds.found)) ≡ Ok steps
+
+  abbrev pub by_rebuild : {old : Moment guid B} → RebuildCall old → Stepped old
+  by_rebuild {old = old} call = stepped call.exit call.rebuilt.taken call.finds call.steps (Stays old.promises) (Stays old.promises)
 
   -- A call of `copyback` that wasn't refused.
   pub record CopybackCall (old : Moment guid B) : Type 0 where
@@ -143,6 +238,9 @@ module _ {B : Type 0} {tells : Type 0} (told : tells) (disks : B → BayState B)
     pub steps : List Step
     pub are_asked : steps_of finds.found timestamp (copyback_request (length (disks old.bay).sizes) word slot (linux_members finds.found)) ≡ Ok steps
 
+  abbrev pub by_copyback : {old : Moment guid B} → CopybackCall old → Stepped old
+  by_copyback {old = old} call = stepped call.exit call.copied.taken call.finds call.steps (Stays old.promises) (Stays old.promises)
+
   -- ---- a command by which another group joins
 
   -- A call of `import` that wasn't refused, as the histories of its group have it: its own group is this one. Nothing is promised of the arrays that
@@ -156,6 +254,22 @@ module _ {B : Type 0} {tells : Type 0} (told : tells) (disks : B → BayState B)
   -- what it issues
   abbrev pub joins_in : {old : Moment guid B} → JoinCall old → List Configuration
   joins_in {old = old} call = joins_of told disks guid (record { past = old.past; bay = old.bay }) call.join
+
+  abbrev pub by_join : {old : Moment guid B} → JoinCall old → Stepped old
+  by_join {old = old} call = record {
+    exit = call.join.exit;
+    left = call.join.imported.first.left;
+    every_slot = call.join.imported.first.every_slot;
+    failed = call.join.imported.first.failed;
+    newest = call.join.imported.first.newest;
+    read = call.join.imported.first.read told;
+    named = call.join.named;
+    finds = record { tells_left = call.tells_left; found = call.join.group; is_found = call.join.is_group; own = call.join.same_group; admitted = call.join.admitted };
+    issued = joins_in call;
+    done = is_done call.join.outcome;
+    may_promise = Stays old.promises;
+    promises_then = Stays old.promises;
+  }
 
   -- ---- calls that don't change the group
 
@@ -181,61 +295,30 @@ module _ {B : Type 0} {tells : Type 0} (told : tells) (disks : B → BayState B)
     Reads : (exit : B) → ReadsOnly (disks old.bay) (disks exit) → Call old
 
   module _ {old : Moment guid B} where
+    abbrev pub course_of : Call old → Course old
+    course_of (Changes call) = Stepping (by_change call)
+    course_of (Accepts accept) = Stepping (by_accept accept)
+    course_of (Resyncs call) = Stepping (by_resync call)
+    course_of (Writes call) = Stepping (by_write call)
+    course_of (Rebuilds call) = Stepping (by_rebuild call)
+    course_of (Copies call) = Stepping (by_copyback call)
+    course_of (Joins call) = Stepping (by_join call)
+    course_of (Others call) = Passing call.beside.exit
+    course_of (Reads exit reads) = Passing exit
+
     abbrev pub exit_of : Call old → B
-    exit_of (Changes call) = call.exit
-    exit_of (Accepts accept) = accept.call.exit
-    exit_of (Resyncs call) = call.exit
-    exit_of (Writes call) = call.exit
-    exit_of (Rebuilds call) = call.exit
-    exit_of (Copies call) = call.exit
-    exit_of (Joins call) = call.join.exit
-    exit_of (Others call) = call.beside.exit
-    exit_of (Reads exit reads) = exit
+    exit_of call = exit_in (course_of call)
 
     -- how far its changes may have come at a moment since its entry, and what may be promised then
     abbrev pub HasComeTo : Call old → Past (groups guid) → Type 0
-    HasComeTo (Changes call) now = Goes guid old.past (is_read call.changed.taken.left) call.finds.found (changes_in call.finds.found call.steps) now
-    HasComeTo (Accepts accept) now =
-        Goes guid old.past (is_read accept.call.changed.taken.left) accept.call.finds.found (changes_in accept.call.finds.found accept.call.steps) now
-    HasComeTo (Resyncs call) now = Goes guid old.past (is_read call.resynced.taken.left) call.finds.found (changes_in call.finds.found (call.plan.first ++ call.plan.last)) now
-    HasComeTo (Writes call) now = Goes guid old.past (is_read call.wrote.taken.left) call.finds.found (changes_in call.finds.found (call.plan.first ++ call.plan.last)) now
-    HasComeTo (Rebuilds call) now = Goes guid old.past (is_read call.rebuilt.taken.left) call.finds.found (changes_in call.finds.found call.steps) now
-    HasComeTo (Copies call) now = Goes guid old.past (is_read call.copied.taken.left) call.finds.found (changes_in call.finds.found call.steps) now
-    HasComeTo (Joins call) now = Goes guid old.past (is_read call.join.imported.first.left) call.join.group (joins_in call) now
-    HasComeTo (Others call) now = now ≡ old.past
-    HasComeTo (Reads exit reads) now = now ≡ old.past
+    HasComeTo call now = comes_in (course_of call) now
 
     abbrev pub MayPromise : Call old → Promises → Type 0
-    MayPromise (Changes call) promised = Stays old.promises promised
-    MayPromise (Accepts accept) promised = Stays old.promises promised
-    MayPromise (Resyncs call) promised = Stays old.promises promised
-    MayPromise (Writes call) promised = MayBeWritten call.plan.entry.0 call.start call.sectors old.promises promised
-    MayPromise (Rebuilds call) promised = Stays old.promises promised
-    MayPromise (Copies call) promised = Stays old.promises promised
-    MayPromise (Joins call) promised = Stays old.promises promised
-    MayPromise (Others call) promised = Stays old.promises promised
-    MayPromise (Reads exit reads) promised = Stays old.promises promised
+    MayPromise call promised = may_promise_in (course_of call) promised
 
     -- where they end
     abbrev pub EndsAt : Call old → Past (groups guid) → Type 0
-    EndsAt (Changes call) now = Ends guid old.past (is_read call.changed.taken.left) call.finds.found (changes_in call.finds.found call.steps) (is_done call.outcome) now
-    EndsAt (Accepts accept) now =
-        Ends guid old.past (is_read accept.call.changed.taken.left) accept.call.finds.found (changes_in accept.call.finds.found accept.call.steps) (is_done accept.call.outcome) now
-    EndsAt (Resyncs call) now = Ends guid old.past (is_read call.resynced.taken.left) call.finds.found (changes_in call.finds.found (call.plan.first ++ call.plan.last)) (is_done call.outcome) now
-    EndsAt (Writes call) now = Ends guid old.past (is_read call.wrote.taken.left) call.finds.found (changes_in call.finds.found (call.plan.first ++ call.plan.last)) (is_written call.outcome) now
-    EndsAt (Rebuilds call) now = Ends guid old.past (is_read call.rebuilt.taken.left) call.finds.found (changes_in call.finds.found call.steps) (is_done call.outcome) now
-    EndsAt (Copies call) now = Ends guid old.past (is_read call.copied.taken.left) call.finds.found (changes_in call.finds.found call.steps) (is_done call.outcome) now
-    EndsAt (Joins call) now = Ends guid old.past (is_read call.join.imported.first.left) call.join.group (joins_in call) (is_done call.join.outcome) now
-    EndsAt (Others call) now = now ≡ old.past
-    EndsAt (Reads exit reads) now = now ≡ old.past
+    EndsAt call now = ends_in (course_of call) now
 
     abbrev pub PromisesThen : Call old → Promises → Type 0
-    PromisesThen (Changes call) promised = promised ≡ once_changed call.change (is_done call.outcome) old.promises
-    PromisesThen (Accepts accept) promised = promised ≡ once_accepted accept (is_done accept.call.outcome)
-    PromisesThen (Resyncs call) promised = promised ≡ once_resynced call (call.counts && is_done call.outcome)
-    PromisesThen (Writes call) promised = IsWrittenOf (is_written call.outcome) call.plan.entry.0 call.start call.sectors old.promises promised
-    PromisesThen (Rebuilds call) promised = Stays old.promises promised
-    PromisesThen (Copies call) promised = Stays old.promises promised
-    PromisesThen (Joins call) promised = Stays old.promises promised
-    PromisesThen (Others call) promised = Stays old.promises promised
-    PromisesThen (Reads exit reads) promised = Stays old.promises promised
+    PromisesThen call promised = promises_in (course_of call) promised

@@ -1,5 +1,5 @@
 -- Each call of a history of data goes on in it, over disks in memory.
-use Rattle.std.proofs.Common.{◌≡◌, ◌∙◌, ℕ, ◌<◌, ◌++◌, Bool, false, List, length, Option, Some, Ok}
+use Rattle.std.proofs.Common.{◌≡◌, ◌∙◌, ℕ, ◌<◌, Bool, false, List, length, Option, Some, Ok}
 use Rattle.std.proofs.Math.Path.{fun_ext}
 use Rattle.std.specs.Prelude.{IsTrue, slice_index_or}
 use Rattle.ddf_bay.specs.Memory.{disks_of}
@@ -13,20 +13,18 @@ use Rattle.ddf_history.specs.History.{KeepsAcked}
 use Rattle.ddf_history.specs.Issued.{Past}
 use Rattle.ddf_seats.specs.Group.{GroupValue}
 use Rattle.ddf_assembly.specs.Group.{group_of}
-use Rattle.ddf_history_steps.specs.Going.{Ends, KeepsSlots, changes_in}
+use Rattle.ddf_history_steps.specs.Going.{Ends, KeepsSlots}
 use Rattle.ddf_history_steps.specs.Kept.{AreAllKept, is_read}
 use Rattle.ddf_history_steps.proofs.SlotsKept.{ends_slots}
 use Rattle.ddf_history_steps.proofs.Told.{found_name}
-use Rattle.ddf_group_commands.specs.Change.{is_done}
-use Rattle.ddf_write_commands.specs.Write.{is_written}
 use Rattle.ddf_history_memory.specs.Histories.{GoesWell, HasMemberOn, IsCutAt, IsHistoryOn}
 use Rattle.ddf_history_memory.proofs.Slots.{becomes, before_told}
-use Rattle.ddf_data_events.specs.Calls.{EndsAt, HasComeTo, joins_in}
-use Rattle.ddf_data_events.specs.Calls.Call.{Accepts, Changes, Copies, Joins, Others, Reads, Rebuilds, Resyncs, Writes}
+use Rattle.ddf_data_events.specs.Calls.{comes_in, ends_in, exit_in}
+use Rattle.ddf_data_events.specs.Calls.Course.{Passing, Stepping}
 use Rattle.ddf_data_events.specs.Events.{Resumes}
 use Rattle.ddf_data_events.specs.Moments.{Moment}
 use Rattle.ddf_data_events.proofs.Happening.{ended, was_cut}
-use Rattle.ddf_data_life.specs.Histories.{CallOn, CutOn, EndsOn, FindsOn, IsDataHistoryOn, LeavesLostOut, exit_on, read_as}
+use Rattle.ddf_data_life.specs.Histories.{CallOn, CourseOn, CutOn, EndsOn, FindsOn, IsDataHistoryOn, LeavesLostOut, course_on, exit_on, read_as}
 use Rattle.ddf_data_life.proofs.Goes.{admitted, cut_history, ended_history, still_cut, still_ended}
 use Rattle.ddf_data_life.proofs.Memory.{bays}
 
@@ -58,27 +56,12 @@ module _ (group : List ℕ) (old : Moment group MemoryBay) (all : IsDataHistoryO
     took_cut : (cut : MemoryBay) (image : Image) → IsCutAt old.bay image cut → AreAllKept group now (disks_of cut) → IsHistoryOn group now cut
     took_cut cut image is_cut kept = cut_history group old.past old.bay exit all.history well told left every_slot failed now found slots acked cut image is_cut kept
 
-  ends_history : (call : CallOn group old) → GoesWell old.bay (exit_on group old call) → (disks_of (exit_on group old call)).tells_left → (now : Past (groups group))
-      → EndsAt {tells = Unit {0}} tt disks_of (Unit {0}) read_as group call now → KeepsAcked old.past now → AreAllKept group now (disks_of (exit_on group old call)) → IsHistoryOn group now (exit_on group old call)
-  ends_history (Changes call) well told now ends acked kept =
-      took_ends call.exit well told call.changed.taken.left call.changed.taken.every_slot call.changed.taken.failed call.finds.found (changes_in call.finds.found call.steps) (is_done call.outcome) now ends acked kept
-  ends_history (Accepts accept) well told now ends acked kept =
-      took_ends accept.call.exit well told accept.call.changed.taken.left accept.call.changed.taken.every_slot accept.call.changed.taken.failed accept.call.finds.found
-      (changes_in accept.call.finds.found accept.call.steps) (is_done accept.call.outcome) now ends acked kept
-  ends_history (Resyncs call) well told now ends acked kept =
-      took_ends call.exit well told call.resynced.taken.left call.resynced.taken.every_slot call.resynced.taken.failed call.finds.found (changes_in call.finds.found (call.plan.first ++ call.plan.last))
-      (is_done call.outcome) now ends acked kept
-  ends_history (Writes call) well told now ends acked kept =
-      took_ends call.exit well told call.wrote.taken.left call.wrote.taken.every_slot call.wrote.taken.failed call.finds.found (changes_in call.finds.found (call.plan.first ++ call.plan.last))
-      (is_written call.outcome) now ends acked kept
-  ends_history (Rebuilds call) well told now ends acked kept =
-      took_ends call.exit well told call.rebuilt.taken.left call.rebuilt.taken.every_slot call.rebuilt.taken.failed call.finds.found (changes_in call.finds.found call.steps) (is_done call.outcome) now ends acked kept
-  ends_history (Copies call) well told now ends acked kept =
-      took_ends call.exit well told call.copied.taken.left call.copied.taken.every_slot call.copied.taken.failed call.finds.found (changes_in call.finds.found call.steps) (is_done call.outcome) now ends acked kept
-  ends_history (Joins call) well told now ends acked kept =
-      took_ends call.join.exit well told call.join.imported.first.left call.join.imported.first.every_slot call.join.imported.first.failed call.join.group (joins_in {tells = Unit {0}} tt disks_of (Unit {0}) read_as group call) (is_done call.join.outcome) now ends acked kept
-  ends_history (Others call) well told now same acked kept = still_ended group old.past old.bay call.beside.exit all.history well now same kept
-  ends_history (Reads exit reads) well told now same acked kept = still_ended group old.past old.bay exit all.history well now same kept
+  ends_history : (course : CourseOn group old) → GoesWell old.bay (exit_in {tells = Unit {0}} tt disks_of (Unit {0}) read_as group course)
+      → (disks_of (exit_in {tells = Unit {0}} tt disks_of (Unit {0}) read_as group course)).tells_left → (now : Past (groups group))
+      → ends_in {tells = Unit {0}} tt disks_of (Unit {0}) read_as group course now → KeepsAcked old.past now
+      → AreAllKept group now (disks_of (exit_in {tells = Unit {0}} tt disks_of (Unit {0}) read_as group course)) → IsHistoryOn group now (exit_in {tells = Unit {0}} tt disks_of (Unit {0}) read_as group course)
+  ends_history (Stepping by) well told now ends acked kept = took_ends by.exit well told by.left by.every_slot by.failed by.finds.found by.issued by.done now ends acked kept
+  ends_history (Passing exit) well told now same acked kept = still_ended group old.past old.bay exit all.history well now same kept
 
   pub ends_on : (call : CallOn group old) → GoesWell old.bay (exit_on group old call) → (disks_of (exit_on group old call)).tells_left → EndsOn group old call
   ends_on call well told =
@@ -88,34 +71,19 @@ module _ (group : List ℕ) (old : Moment group MemoryBay) (all : IsDataHistoryO
         promises = on.promised;
         comes = on.comes;
         is_promised = on.is_so;
-        history = record { history = ends_history call well told on.now on.comes on.acked on.keeps.shows; keeps = on.keeps };
+        history = record { history = ends_history (course_on group old call) well told on.now on.comes on.acked on.keeps.shows; keeps = on.keeps };
         acked = on.acked;
       }
 
   -- ---- where a stop cut it
 
   module _ (image : Image) (cut : MemoryBay) (is_cut : IsCutAt old.bay image cut) where
-    come_history : (call : CallOn group old) → GoesWell old.bay (exit_on group old call) → (disks_of (exit_on group old call)).tells_left → (now : Past (groups group))
-        → HasComeTo {tells = Unit {0}} tt disks_of (Unit {0}) read_as group call now → KeepsAcked old.past now → AreAllKept group now (disks_of cut) → IsHistoryOn group now cut
-    come_history (Changes call) well told now come acked kept =
-        took_cut call.exit well told call.changed.taken.left call.changed.taken.every_slot call.changed.taken.failed call.finds.found (changes_in call.finds.found call.steps) false now come acked cut image is_cut kept
-    come_history (Accepts accept) well told now come acked kept =
-        took_cut accept.call.exit well told accept.call.changed.taken.left accept.call.changed.taken.every_slot accept.call.changed.taken.failed accept.call.finds.found
-        (changes_in accept.call.finds.found accept.call.steps) false now come acked cut image is_cut kept
-    come_history (Resyncs call) well told now come acked kept =
-        took_cut call.exit well told call.resynced.taken.left call.resynced.taken.every_slot call.resynced.taken.failed call.finds.found (changes_in call.finds.found (call.plan.first ++ call.plan.last))
-        false now come acked cut image is_cut kept
-    come_history (Writes call) well told now come acked kept =
-        took_cut call.exit well told call.wrote.taken.left call.wrote.taken.every_slot call.wrote.taken.failed call.finds.found (changes_in call.finds.found (call.plan.first ++ call.plan.last))
-        false now come acked cut image is_cut kept
-    come_history (Rebuilds call) well told now come acked kept =
-        took_cut call.exit well told call.rebuilt.taken.left call.rebuilt.taken.every_slot call.rebuilt.taken.failed call.finds.found (changes_in call.finds.found call.steps) false now come acked cut image is_cut kept
-    come_history (Copies call) well told now come acked kept =
-        took_cut call.exit well told call.copied.taken.left call.copied.taken.every_slot call.copied.taken.failed call.finds.found (changes_in call.finds.found call.steps) false now come acked cut image is_cut kept
-    come_history (Joins call) well told now come acked kept =
-        took_cut call.join.exit well told call.join.imported.first.left call.join.imported.first.every_slot call.join.imported.first.failed call.join.group (joins_in {tells = Unit {0}} tt disks_of (Unit {0}) read_as group call) false now come acked cut image is_cut kept
-    come_history (Others call) well told now same acked kept = still_cut group old.past old.bay call.beside.exit all.history well now same cut image is_cut kept
-    come_history (Reads exit reads) well told now same acked kept = still_cut group old.past old.bay exit all.history well now same cut image is_cut kept
+    come_history : (course : CourseOn group old) → GoesWell old.bay (exit_in {tells = Unit {0}} tt disks_of (Unit {0}) read_as group course)
+        → (disks_of (exit_in {tells = Unit {0}} tt disks_of (Unit {0}) read_as group course)).tells_left → (now : Past (groups group))
+        → comes_in {tells = Unit {0}} tt disks_of (Unit {0}) read_as group course now → KeepsAcked old.past now → AreAllKept group now (disks_of cut) → IsHistoryOn group now cut
+    come_history (Stepping by) well told now come acked kept =
+        took_cut by.exit well told by.left by.every_slot by.failed by.finds.found by.issued false now come acked cut image is_cut kept
+    come_history (Passing exit) well told now same acked kept = still_cut group old.past old.bay exit all.history well now same cut image is_cut kept
 
     pub cut_on : (call : CallOn group old) → GoesWell old.bay (exit_on group old call) → (disks_of (exit_on group old call)).left_since (disks_of old.bay).moment image → (disks_of cut).tells_left → CutOn group old call cut
     cut_on call well was_left told =
@@ -130,6 +98,6 @@ module _ (group : List ℕ) (old : Moment group MemoryBay) (all : IsDataHistoryO
           promises = on.promised;
           comes = on.comes;
           is_promised = on.is_so;
-          history = record { history = come_history call well was_left.0 on.now on.comes on.acked on.keeps.shows; keeps = on.keeps };
+          history = record { history = come_history (course_on group old call) well was_left.0 on.now on.comes on.acked on.keeps.shows; keeps = on.keeps };
           acked = on.acked;
         }

@@ -1,5 +1,5 @@
 -- The first calls on a group from elsewhere that was found on disks in memory, and its data.
-use Rattle.std.proofs.Common.{◌≡◌, ◌∙◌, ℕ, ◌<◌, ◌≤◌, ◌++◌, Bool, true, false, List, [], length, Option, Some, Ok, sym, ap, subst, inl, inr, arith}
+use Rattle.std.proofs.Common.{◌≡◌, ◌∙◌, ℕ, ◌<◌, ◌≤◌, Bool, true, false, List, [], length, Option, Some, Ok, sym, ap, subst, inl, inr, arith}
 use Rattle.std.proofs.lemmas.Bool.{false_from_ne_true}
 use Rattle.std.specs.Prelude.{IsTrue, slice_index_or}
 use Rattle.ddf_bay.specs.Memory.{disks_of}
@@ -15,24 +15,22 @@ use Rattle.ddf_history.proofs.Members.{leading_member}
 use Rattle.ddf_history.proofs.Sound.{groups_are_sound}
 use Rattle.ddf_seats.specs.Group.{GroupValue}
 use Rattle.ddf_assembly.specs.Group.{group_of}
-use Rattle.ddf_history_steps.specs.Going.{Ends, changes_in}
+use Rattle.ddf_history_steps.specs.Going.{Ends}
 use Rattle.ddf_history_steps.specs.Kept.{AreAllKept, is_read}
 use Rattle.ddf_history_steps.proofs.SlotsKept.{ends_slots}
 use Rattle.ddf_history_steps.proofs.Told.{found_name}
-use Rattle.ddf_group_commands.specs.Change.{is_done}
-use Rattle.ddf_write_commands.specs.Write.{is_written}
 use Rattle.ddf_history_memory.specs.Found.{BeginsFound, LeadsOn}
 use Rattle.ddf_history_memory.specs.Histories.{GoesWell, IsHistoryOn}
 use Rattle.ddf_history_memory.proofs.Found.{shown_within}
 use Rattle.ddf_history_memory.proofs.Slots.{becomes, before_told, left_gone, read_at, read_below, reads_left}
 use Rattle.ddf_history_memory.proofs.Young.{young}
 use Rattle.ddf_data_events.specs.Beginnings.{Begins}
-use Rattle.ddf_data_events.specs.Calls.{EndsAt, joins_in}
-use Rattle.ddf_data_events.specs.Calls.Call.{Accepts, Changes, Copies, Joins, Others, Reads, Rebuilds, Resyncs, Writes}
+use Rattle.ddf_data_events.specs.Calls.{ends_in, exit_in}
+use Rattle.ddf_data_events.specs.Calls.Course.{Passing, Stepping}
 use Rattle.ddf_data_events.specs.Moments.{Moment}
 use Rattle.ddf_data_events.proofs.Beginning.{found_begins}
 use Rattle.ddf_data_events.proofs.Happening.{ended}
-use Rattle.ddf_data_life.specs.Histories.{CallOn, EndsOurs, FindsOn, IsFoundData, IsYoungDataOn, exit_on, read_as}
+use Rattle.ddf_data_life.specs.Histories.{CallOn, CourseOn, EndsOurs, FindsOn, IsFoundData, IsYoungDataOn, course_on, exit_on, read_as}
 use Rattle.ddf_data_life.proofs.Memory.{bays, small_sizes}
 
 -- ---- the beginning
@@ -105,28 +103,12 @@ module _ (group : List ℕ) (old : Moment group MemoryBay) (all : IsYoungDataOn 
       let from : now.changes.own_from ≡ 1 = ap (λ (past : Past (groups group)). past.changes.own_from) same ∙ all.history.own in
       omega (arith, own, acked, from)
 
-  ours_by : (call : CallOn group old) → GoesWell old.bay (exit_on group old call) → (disks_of (exit_on group old call)).tells_left → (now : Past (groups group))
-      → EndsAt {tells = Unit {0}} tt disks_of (Unit {0}) read_as group call now → AreAllKept group now (disks_of (exit_on group old call)) → now.changes.own_from ≤ now.changes.acked
-      → IsHistoryOn group now (exit_on group old call)
-  ours_by (Changes call) well told now ends kept own =
-      took_ours call.exit well told call.changed.taken.left call.changed.taken.every_slot call.changed.taken.failed call.finds.found (changes_in call.finds.found call.steps) (is_done call.outcome) now ends kept own
-  ours_by (Accepts accept) well told now ends kept own =
-      took_ours accept.call.exit well told accept.call.changed.taken.left accept.call.changed.taken.every_slot accept.call.changed.taken.failed accept.call.finds.found
-      (changes_in accept.call.finds.found accept.call.steps) (is_done accept.call.outcome) now ends kept own
-  ours_by (Resyncs call) well told now ends kept own =
-      took_ours call.exit well told call.resynced.taken.left call.resynced.taken.every_slot call.resynced.taken.failed call.finds.found (changes_in call.finds.found (call.plan.first ++ call.plan.last))
-      (is_done call.outcome) now ends kept own
-  ours_by (Writes call) well told now ends kept own =
-      took_ours call.exit well told call.wrote.taken.left call.wrote.taken.every_slot call.wrote.taken.failed call.finds.found (changes_in call.finds.found (call.plan.first ++ call.plan.last))
-      (is_written call.outcome) now ends kept own
-  ours_by (Rebuilds call) well told now ends kept own =
-      took_ours call.exit well told call.rebuilt.taken.left call.rebuilt.taken.every_slot call.rebuilt.taken.failed call.finds.found (changes_in call.finds.found call.steps) (is_done call.outcome) now ends kept own
-  ours_by (Copies call) well told now ends kept own =
-      took_ours call.exit well told call.copied.taken.left call.copied.taken.every_slot call.copied.taken.failed call.finds.found (changes_in call.finds.found call.steps) (is_done call.outcome) now ends kept own
-  ours_by (Joins call) well told now ends kept own =
-      took_ours call.join.exit well told call.join.imported.first.left call.join.imported.first.every_slot call.join.imported.first.failed call.join.group (joins_in {tells = Unit {0}} tt disks_of (Unit {0}) read_as group call) (is_done call.join.outcome) now ends kept own
-  ours_by (Others call) well told now same kept own = absurd (none_ours now same own)
-  ours_by (Reads exit reads) well told now same kept own = absurd (none_ours now same own)
+  ours_by : (course : CourseOn group old) → GoesWell old.bay (exit_in {tells = Unit {0}} tt disks_of (Unit {0}) read_as group course)
+      → (disks_of (exit_in {tells = Unit {0}} tt disks_of (Unit {0}) read_as group course)).tells_left → (now : Past (groups group))
+      → ends_in {tells = Unit {0}} tt disks_of (Unit {0}) read_as group course now → AreAllKept group now (disks_of (exit_in {tells = Unit {0}} tt disks_of (Unit {0}) read_as group course))
+      → now.changes.own_from ≤ now.changes.acked → IsHistoryOn group now (exit_in {tells = Unit {0}} tt disks_of (Unit {0}) read_as group course)
+  ours_by (Stepping by) well told now ends kept own = took_ours by.exit well told by.left by.every_slot by.failed by.finds.found by.issued by.done now ends kept own
+  ours_by (Passing exit) well told now same kept own = absurd (none_ours now same own)
 
   pub ends_ours : (call : CallOn group old) → GoesWell old.bay (exit_on group old call) → (disks_of (exit_on group old call)).tells_left → EndsOurs group old call
   ends_ours call well told =
@@ -138,5 +120,5 @@ module _ (group : List ℕ) (old : Moment group MemoryBay) (all : IsYoungDataOn 
         is_promised = on.is_so;
         keeps = on.keeps;
         acked = on.acked;
-        ours = λ own. record { history = ours_by call well told on.now on.comes on.keeps.shows own; keeps = on.keeps };
+        ours = λ own. record { history = ours_by (course_on group old call) well told on.now on.comes on.keeps.shows own; keeps = on.keeps };
       }

@@ -16,7 +16,7 @@ use Rattle.ddf_history_steps.specs.Kept.{is_read}
 use Rattle.ddf_history_memory.specs.Found.{IsYoungOn}
 use Rattle.ddf_history_memory.specs.Histories.{IsHistoryOn}
 use Rattle.ddf_data_events.specs.Beginnings.{first_moment}
-use Rattle.ddf_data_events.specs.Calls.{Call, EndsAt, Finds, HasComeTo, MayPromise, PromisesThen, exit_of}
+use Rattle.ddf_data_events.specs.Calls.{Call, Course, EndsAt, Finds, HasComeTo, MayPromise, PromisesThen, course_of, exit_of}
 use Rattle.ddf_data_events.specs.Moments.{KeepsAll, Moment}
 
 -- A history of the group over all slots of a bay in memory, in which a change of this engine is acknowledged, and of its data: whatever a stop leaves shows
@@ -86,6 +86,13 @@ read_as source = source
 -- a call of a history of data, over disks in memory and an input that tell what they hold
 abbrev pub CallOn : (group : List ℕ) → Moment group MemoryBay → Type 0
 CallOn group old = Call {tells = Unit {0}} tt disks_of (Unit {0}) read_as group old
+
+-- its course
+abbrev pub CourseOn : (group : List ℕ) → Moment group MemoryBay → Type 1
+CourseOn group old = Course {tells = Unit {0}} tt disks_of (Unit {0}) read_as group old
+
+abbrev pub course_on : (group : List ℕ) (old : Moment group MemoryBay) → CallOn group old → CourseOn group old
+course_on group old call = course_of {tells = Unit {0}} tt disks_of (Unit {0}) read_as group call
 
 -- A call that left these slots out found the group of the history, which admits it.
 abbrev pub FindsOn : (group : List ℕ) → Moment group MemoryBay → (left : List Bool) → List (Option Newest) → Type 0

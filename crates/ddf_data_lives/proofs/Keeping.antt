@@ -44,11 +44,13 @@ use Rattle.ddf_import_command.specs.Import.{import_asked}
 use Rattle.ddf_data_calls.proofs.Recovered.{recovered_listed}
 use Rattle.ddf_history_memory.specs.Histories.{GoesWell}
 use Rattle.ddf_history_memory.proofs.Slots.{before_told, left_gone, read_at}
+use Rattle.ddf_data_events.specs.Calls.{exit_in}
 use Rattle.ddf_data_events.specs.Calls.Call.{Accepts, Changes, Copies, Joins, Others, Reads, Rebuilds, Resyncs, Writes}
+use Rattle.ddf_data_events.specs.Calls.Course.{Passing, Stepping}
 use Rattle.ddf_data_events.specs.Moments.{Moment}
 use Rattle.ddf_data_events.proofs.Floors.{by_held}
 use Rattle.ddf_data_events.proofs.JoinAsked.{is_readied, is_unrefused}
-use Rattle.ddf_data_life.specs.Histories.{CallOn, exit_on}
+use Rattle.ddf_data_life.specs.Histories.{CallOn, CourseOn, course_on, exit_on, read_as as input_as}
 use Rattle.ddf_data_life.proofs.Kept.{resync_keeps, write_keeps}
 use Rattle.ddf_data_life.proofs.Memory.{bays}
 use Rattle.ddf_data_lives.specs.Sparing.{FailsNot}
@@ -170,41 +172,39 @@ module _ (group : List ℕ) (kept : ℕ) (disk : Disk) (old : Moment group Memor
       let is = is_unrefused timestamp native other made (is_readied timestamp left native other made asked).0 in
       subst (λ (one : Joining). has_current one.step.config disk ≡ true) is.is_made (join_keeps timestamp native other disk was)
 
-  pub keeps_on : (call : CallOn group old) → GoesWell old.bay (exit_on group old call) → (disks_of (exit_on group old call)).tells_left → FailsNot group disk old call → KeepsDisk group kept disk old call
-  keeps_on (Changes call) well told spares =
-      let now = still_current call.exit well told call.changed.taken.left call.changed.taken.every_slot call.changed.taken.failed call.changed.taken.newest (call.changed.taken.read tt) call.named call.finds.found
-      call.finds.is_found call.finds.own call.finds.admitted in
+  -- Where it takes the group the disk is a current member of the group once that is recovered.
+  abbrev IsCurrentIn : CourseOn group old → Type 0
+  IsCurrentIn (Stepping by) = has_current (config_recovered by.finds.found) disk ≡ true
+  IsCurrentIn (Passing exit) = Unit {0}
+
+  current_in : (course : CourseOn group old) → GoesWell old.bay (exit_in {tells = Unit {0}} tt disks_of (Unit {0}) input_as group course)
+      → (disks_of (exit_in {tells = Unit {0}} tt disks_of (Unit {0}) input_as group course)).tells_left → IsCurrentIn course
+  current_in (Stepping by) well told =
+      still_current by.exit well told by.left by.every_slot by.failed by.newest by.read by.named by.finds.found by.finds.is_found by.finds.own by.finds.admitted
+  current_in (Passing exit) well told = tt
+
+  issues : (call : CallOn group old) → IsCurrentIn (course_on group old call) → FailsNot group disk old call → KeepsDisk group kept disk old call
+  issues (Changes call) now spares =
       issued_keep disk call.finds.found call.steps (change_keeps disk call.finds.found call.timestamp now call.request call.change spares call.is_change call.steps call.are_asked)
-  keeps_on (Accepts accept) well told spares =
+  issues (Accepts accept) now spares =
       let call = accept.call in
-      let now = still_current call.exit well told call.changed.taken.left call.changed.taken.every_slot call.changed.taken.failed call.changed.taken.newest (call.changed.taken.read tt) call.named call.finds.found
-      call.finds.is_found call.finds.own call.finds.admitted in
       issued_keep disk call.finds.found call.steps
       (change_keeps disk call.finds.found call.timestamp now call.request call.change (unmark_spares accept.array accept.init call.change accept.is_accept) call.is_change call.steps call.are_asked)
-  keeps_on (Resyncs call) well told spares =
-      let now = still_current call.exit well told call.resynced.taken.left call.resynced.taken.every_slot call.resynced.taken.failed call.resynced.taken.newest (call.resynced.taken.read tt) call.named call.finds.found
-      call.finds.is_found call.finds.own call.finds.admitted in
+  issues (Resyncs call) now spares =
       issued_keep disk call.finds.found (call.plan.first ++ call.plan.last)
       (resync_keeps disk call.finds.found call.timestamp now (call.plan.first ++ call.plan.last) call.word call.plan.entry call.plan.is_named call.plan.are_asked)
-  keeps_on (Writes call) well told spares =
-      let now = still_current call.exit well told call.wrote.taken.left call.wrote.taken.every_slot call.wrote.taken.failed call.wrote.taken.newest (call.wrote.taken.read tt) call.named call.finds.found
-      call.finds.is_found call.finds.own call.finds.admitted in
+  issues (Writes call) now spares =
       issued_keep disk call.finds.found (call.plan.first ++ call.plan.last)
       (write_keeps disk call.finds.found call.timestamp now (call.plan.first ++ call.plan.last) call.word call.start call.count call.plan.entry call.plan.is_named call.plan.are_asked)
-  keeps_on (Rebuilds call) well told spares =
-      let now = still_current call.exit well told call.rebuilt.taken.left call.rebuilt.taken.every_slot call.rebuilt.taken.failed call.rebuilt.taken.newest (call.rebuilt.taken.read tt) call.named call.finds.found
-      call.finds.is_found call.finds.own call.finds.admitted in
-      issued_keep disk call.finds.found call.steps (rebuild_keeps disk call.finds.found call.timestamp now call.steps call.word call.are_asked)
-  keeps_on (Copies call) well told spares =
-      let now = still_current call.exit well told call.copied.taken.left call.copied.taken.every_slot call.copied.taken.failed call.copied.taken.newest (call.copied.taken.read tt) call.named call.finds.found
-      call.finds.is_found call.finds.own call.finds.admitted in
-      issued_keep disk call.finds.found call.steps (copyback_keeps disk call.finds.found call.timestamp now call.steps _ call.word call.slot call.are_asked)
-  keeps_on (Joins call) well told spares =
+  issues (Rebuilds call) now spares = issued_keep disk call.finds.found call.steps (rebuild_keeps disk call.finds.found call.timestamp now call.steps call.word call.are_asked)
+  issues (Copies call) now spares = issued_keep disk call.finds.found call.steps (copyback_keeps disk call.finds.found call.timestamp now call.steps _ call.word call.slot call.are_asked)
+  issues (Joins call) now spares =
       let join = call.join in
-      let now = still_current join.exit well told join.imported.first.left join.imported.first.every_slot join.imported.first.failed join.imported.first.newest (join.imported.first.read tt) join.named join.group
-      join.is_group join.same_group join.admitted in
       one_more (λ (config : Configuration). has_current config disk ≡ true) (recovery_changes join.timestamp join.group) join.made.step.config
       (issued_keep disk join.group (option_to_list (recovery_of join.timestamp join.group)) (recovered_keep disk join.group join.timestamp now))
       (join_issues join.timestamp join.imported.first.left join.group join.joining join.made join.are_asked now)
-  keeps_on (Others call) well told spares = λ place config at. absurd cc
-  keeps_on (Reads exit reads) well told spares = λ place config at. absurd cc
+  issues (Others call) now spares = λ place config at. absurd cc
+  issues (Reads exit reads) now spares = λ place config at. absurd cc
+
+  pub keeps_on : (call : CallOn group old) → GoesWell old.bay (exit_on group old call) → (disks_of (exit_on group old call)).tells_left → FailsNot group disk old call → KeepsDisk group kept disk old call
+  keeps_on call well told spares = issues call (current_in (course_on group old call) well told) spares

@@ -1,5 +1,5 @@
 -- A disk that stands at a moment of a history of data, and how it goes on.
-use Rattle.std.proofs.Common.{◌≡◌, ◌∙◌, ℕ, zero, suc, ◌<◌, ◌≤◌, ◌++◌, Bool, true, false, List, [], length, Option, Some, Ok, refl, sym, ap, subst, arith}
+use Rattle.std.proofs.Common.{◌≡◌, ◌∙◌, ℕ, zero, suc, ◌<◌, ◌≤◌, Bool, true, false, List, [], length, Option, Some, Ok, refl, sym, ap, subst, arith}
 use Rattle.std.proofs.lemmas.Bool.{false_from_ne_true}
 use Rattle.std.specs.Prelude.{IsTrue, slice_get, slice_index_or}
 use Rattle.ddf_bytes.specs.declared.stamp.Stamp.{Stamp}
@@ -18,28 +18,26 @@ use Rattle.ddf_history.specs.Issued.{IsSince, Past, give_back}
 use Rattle.ddf_seats.specs.Group.{GroupValue}
 use Rattle.ddf_assembly.specs.Group.{group_of}
 use Rattle.ddf_assembly.specs.Slots.{AreOut, newest_from}
-use Rattle.ddf_history_steps.specs.Going.{Ends, changes_in}
+use Rattle.ddf_history_steps.specs.Going.{Ends}
 use Rattle.ddf_history_steps.specs.Kept.{is_read}
 use Rattle.ddf_history_steps.proofs.SlotsKept.{ends_slots}
 use Rattle.ddf_answer.specs.Call.{work_of}
 use Rattle.ddf_disk_commands.specs.Label.{IsTried}
-use Rattle.ddf_group_commands.specs.Change.{is_done}
-use Rattle.ddf_write_commands.specs.Write.{is_written}
 use Rattle.ddf_data_calls.specs.Reading.{MayBe, blocks_printed}
 use Rattle.ddf_history_life.specs.Life.{labelled_disk}
 use Rattle.ddf_history_memory.specs.Histories.{GoesWell, HasMemberOn}
 use Rattle.ddf_history_memory.proofs.Slots.{becomes, before_told, not_read, read_below, reads_left}
 use Rattle.ddf_data_events.specs.Beginnings.{first_moment, none_promised}
-use Rattle.ddf_data_events.specs.Calls.{EndsAt, HasComeTo, joins_in}
-use Rattle.ddf_data_events.specs.Calls.Call.{Accepts, Changes, Copies, Joins, Others, Reads, Rebuilds, Resyncs, Writes}
+use Rattle.ddf_data_events.specs.Calls.{comes_in, ends_in, issued_in}
+use Rattle.ddf_data_events.specs.Calls.Course.{Passing, Stepping}
 use Rattle.ddf_data_events.specs.Moments.{Moment}
 use Rattle.ddf_data_life.specs.Commands.{IsRead}
-use Rattle.ddf_data_life.specs.Histories.{CallOn, FindsOn, IsDataHistoryOn, LeavesLostOut, behind, exit_on, read_as}
+use Rattle.ddf_data_life.specs.Histories.{CourseOn, FindsOn, IsDataHistoryOn, LeavesLostOut, behind, course_on, exit_on, read_as}
 use Rattle.ddf_data_life.proofs.Calls.{cut_on, ends_on, finds}
 use Rattle.ddf_data_life.proofs.Labels.{label_begins}
 use Rattle.ddf_data_life.proofs.Losses.{come_back, stopped, unplugged}
 use Rattle.ddf_data_life.proofs.Printed.{printed}
-use Rattle.ddf_data_lives.specs.Standing.{Behind, KeepsDisk, Stands, StandsOn, Turn}
+use Rattle.ddf_data_lives.specs.Standing.{Behind, Stands, StandsOn, Turn}
 use Rattle.ddf_data_lives.specs.Standing.Turn.{Cut, Ended, Returned, Stopped, Unplugged}
 use Rattle.ddf_data_lives.proofs.Since.{ends_since}
 
@@ -103,29 +101,17 @@ module _ (group : List ℕ) (kept : ℕ) (disk : Disk) where
     still : (now : Past (groups group)) → now ≡ old.past → IsKeeping now
     still now same = subst IsKeeping (sym same) (record { same_disk = stands.same_disk; current = stands.current })
 
-    ended : (call : CallOn group old) → KeepsDisk group kept disk old call → (now : Past (groups group)) → EndsAt {tells = Unit {0}} tt disks_of (Unit {0}) read_as group call now → IsKeeping now
-    ended (Changes call) keeps now ends = taken (is_read call.changed.taken.left) call.finds.found (changes_in call.finds.found call.steps) keeps (is_done call.outcome) now ends
-    ended (Accepts accept) keeps now ends =
-        taken (is_read accept.call.changed.taken.left) accept.call.finds.found (changes_in accept.call.finds.found accept.call.steps) keeps (is_done accept.call.outcome) now ends
-    ended (Resyncs call) keeps now ends = taken (is_read call.resynced.taken.left) call.finds.found (changes_in call.finds.found (call.plan.first ++ call.plan.last)) keeps (is_done call.outcome) now ends
-    ended (Writes call) keeps now ends = taken (is_read call.wrote.taken.left) call.finds.found (changes_in call.finds.found (call.plan.first ++ call.plan.last)) keeps (is_written call.outcome) now ends
-    ended (Rebuilds call) keeps now ends = taken (is_read call.rebuilt.taken.left) call.finds.found (changes_in call.finds.found call.steps) keeps (is_done call.outcome) now ends
-    ended (Copies call) keeps now ends = taken (is_read call.copied.taken.left) call.finds.found (changes_in call.finds.found call.steps) keeps (is_done call.outcome) now ends
-    ended (Joins call) keeps now ends =
-        taken (is_read call.join.imported.first.left) call.join.group (joins_in {tells = Unit {0}} tt disks_of (Unit {0}) read_as group call) keeps (is_done call.join.outcome) now ends
-    ended (Others call) keeps now same = still now same
-    ended (Reads exit reads) keeps now same = still now same
+    -- Each configuration that it issues lists the disk as a current member.
+    abbrev KeepsIn : CourseOn group old → Type 0
+    KeepsIn course = (place : ℕ) (config : Configuration) → slice_get (issued_in {tells = Unit {0}} tt disks_of (Unit {0}) read_as group course) place ≡ Some config → has_current config disk ≡ true
 
-    come : (call : CallOn group old) → KeepsDisk group kept disk old call → (now : Past (groups group)) → HasComeTo {tells = Unit {0}} tt disks_of (Unit {0}) read_as group call now → IsKeeping now
-    come (Changes call) keeps now goes = taken (is_read call.changed.taken.left) call.finds.found (changes_in call.finds.found call.steps) keeps false now goes
-    come (Accepts accept) keeps now goes = taken (is_read accept.call.changed.taken.left) accept.call.finds.found (changes_in accept.call.finds.found accept.call.steps) keeps false now goes
-    come (Resyncs call) keeps now goes = taken (is_read call.resynced.taken.left) call.finds.found (changes_in call.finds.found (call.plan.first ++ call.plan.last)) keeps false now goes
-    come (Writes call) keeps now goes = taken (is_read call.wrote.taken.left) call.finds.found (changes_in call.finds.found (call.plan.first ++ call.plan.last)) keeps false now goes
-    come (Rebuilds call) keeps now goes = taken (is_read call.rebuilt.taken.left) call.finds.found (changes_in call.finds.found call.steps) keeps false now goes
-    come (Copies call) keeps now goes = taken (is_read call.copied.taken.left) call.finds.found (changes_in call.finds.found call.steps) keeps false now goes
-    come (Joins call) keeps now goes = taken (is_read call.join.imported.first.left) call.join.group (joins_in {tells = Unit {0}} tt disks_of (Unit {0}) read_as group call) keeps false now goes
-    come (Others call) keeps now same = still now same
-    come (Reads exit reads) keeps now same = still now same
+    ended : (course : CourseOn group old) → KeepsIn course → (now : Past (groups group)) → ends_in {tells = Unit {0}} tt disks_of (Unit {0}) read_as group course now → IsKeeping now
+    ended (Stepping by) keeps now ends = taken (is_read by.left) by.finds.found by.issued keeps by.done now ends
+    ended (Passing exit) keeps now same = still now same
+
+    come : (course : CourseOn group old) → KeepsIn course → (now : Past (groups group)) → comes_in {tells = Unit {0}} tt disks_of (Unit {0}) read_as group course now → IsKeeping now
+    come (Stepping by) keeps now goes = taken (is_read by.left) by.finds.found by.issued keeps false now goes
+    come (Passing exit) keeps now same = still now same
 
     stands_on : (now : Past (groups group)) (bay : MemoryBay) (promises : Promises) → (disks_of bay).sizes ≡ (disks_of old.bay).sizes → ((disks_of bay).gone kept → ⊥) → IsKeeping now
         → IsDataHistoryOn group (behind old now bay promises) → Stands group kept disk (behind old now bay promises)
@@ -153,7 +139,7 @@ module _ (group : List ℕ) (kept : ℕ) (disk : Disk) where
           behind_it = record { is_bay = refl; comes = on.comes; is_promised = on.is_promised };
           acked = on.acked;
           next_stands = stands_on on.past (exit_on group old call) on.promises (becomes old.bay (exit_on group old call) well).same_sizes (plugged_then (exit_on group old call) well)
-              (ended call keeps on.past on.comes) on.history;
+              (ended (course_on group old call) keeps on.past on.comes) on.history;
         }
     follows (Cut call well image cut was_left is_cut told plugged keeps) =
         let on = cut_on group old stands.data_history image cut is_cut call well was_left told in
@@ -161,7 +147,7 @@ module _ (group : List ℕ) (kept : ℕ) (disk : Disk) where
           next = behind old on.past cut on.promises;
           behind_it = record { is_bay = refl; comes = on.comes; is_promised = on.is_promised };
           acked = on.acked;
-          next_stands = stands_on on.past cut on.promises is_cut.same_sizes plugged (come call keeps on.past on.comes) on.history;
+          next_stands = stands_on on.past cut on.promises is_cut.same_sizes plugged (come (course_on group old call) keeps on.past on.comes) on.history;
         }
     follows (Stopped cut back is away told plugged) = record {
       next = behind old old.past cut old.promises;

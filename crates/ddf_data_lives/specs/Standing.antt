@@ -1,5 +1,5 @@
 -- Histories of a group and of its data on disks in memory, of any length, through which the disk of one slot can be read and is a member.
-use Rattle.std.specs.Prelude.{◌≡◌, ℕ, zero, suc, ◌<◌, ◌==◌, ◌++◌, true, false, Bool, List, [], length, Some, slice_get}
+use Rattle.std.specs.Prelude.{◌≡◌, ℕ, zero, suc, ◌<◌, ◌==◌, true, false, Bool, List, length, Some, slice_get}
 use Rattle.ddf_bay.specs.Memory.{disks_of, state_of, without}
 use Rattle.ddf_bay.specs.Sectors.{Image}
 use Rattle.ddf_bay.specs.declared.memory.MemoryBay.{MemoryBay}
@@ -8,25 +8,15 @@ use Rattle.ddf_data_group.specs.Grouped.{Promises}
 use Rattle.ddf_history.specs.Groups.{Disk, groups, has_current, has_missing}
 use Rattle.ddf_history.specs.History.{KeepsAcked}
 use Rattle.ddf_history.specs.Issued.{IsSince, Past, give_back}
-use Rattle.ddf_history_steps.specs.Going.{changes_in}
 use Rattle.ddf_history_memory.specs.Histories.{GoesWell, IsCutAt, IsStopped}
-use Rattle.ddf_data_events.specs.Calls.{EndsAt, HasComeTo, MayPromise, PromisesThen, joins_in}
-use Rattle.ddf_data_events.specs.Calls.Call.{Accepts, Changes, Copies, Joins, Others, Reads, Rebuilds, Resyncs, Writes}
+use Rattle.ddf_data_events.specs.Calls.{EndsAt, HasComeTo, MayPromise, PromisesThen, issued_in}
 use Rattle.ddf_data_events.specs.Moments.{Moment}
-use Rattle.ddf_data_life.specs.Histories.{CallOn, IsDataHistoryOn, exit_on, read_as}
+use Rattle.ddf_data_life.specs.Histories.{CallOn, IsDataHistoryOn, course_on, exit_on, read_as}
 
 module _ (group : List ℕ) where
   -- the configurations that a call issues
   abbrev pub changes_of : (old : Moment group MemoryBay) → CallOn group old → List Configuration
-  changes_of old (Changes call) = changes_in call.finds.found call.steps
-  changes_of old (Accepts accept) = changes_in accept.call.finds.found accept.call.steps
-  changes_of old (Resyncs call) = changes_in call.finds.found (call.plan.first ++ call.plan.last)
-  changes_of old (Writes call) = changes_in call.finds.found (call.plan.first ++ call.plan.last)
-  changes_of old (Rebuilds call) = changes_in call.finds.found call.steps
-  changes_of old (Copies call) = changes_in call.finds.found call.steps
-  changes_of old (Joins call) = joins_in {tells = Unit {0}} tt disks_of (Unit {0}) read_as group call
-  changes_of old (Others call) = []
-  changes_of old (Reads exit reads) = []
+  changes_of old call = issued_in {tells = Unit {0}} tt disks_of (Unit {0}) read_as group (course_on group old call)
 
 module _ (group : List ℕ) (kept : ℕ) (disk : Disk) where
   -- The history holds all; the slot isn't unplugged, and its disk is a current member of each configuration since the last acknowledged one. Other slots may be unplugged.

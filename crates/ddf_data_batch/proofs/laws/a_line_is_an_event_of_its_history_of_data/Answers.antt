@@ -1,6 +1,6 @@
 use Rattle.ddf_answer.specs.Call.{answer_of}
-use Rattle.ddf_data_batch.proofs.Done.{line_done}
 use Rattle.ddf_data_batch.proofs.Ends.{line_cut, line_ends, line_reads}
+use Rattle.ddf_data_batch.proofs.Own.{of_line}
 use Rattle.ddf_data_batch.proofs.laws.a_line_is_an_event_of_its_history_of_data.Goals as goal
 
 pub returns-clause-reads : goal.returns-clause-reads
@@ -12,7 +12,8 @@ returns-clause-ends g c = λ told stamp group guid old output to code line all t
     (λ start kept events. c.a_group_keeps_its_history_and_its_data_at_every_moment.ensures told guid start kept events) line all tells_left same_sizes
 
 pub returns-clause-done : goal.returns-clause-done
-returns-clause-done g c = λ told stamp group guid old output to code line zero. line_done told g.B.Bay.disks g.S.Source.tells g.S.Source.input stamp group guid old to.bay (answer_of g.K.Sink.tells output to.output code) zero line
+returns-clause-done g c = λ told stamp group guid old output to code line zero.
+    (of_line told g.B.Bay.disks g.S.Source.tells g.S.Source.input stamp group guid old to.bay (answer_of g.K.Sink.tells output to.output code) line).done zero
 
 pub returns-clause-cut : goal.returns-clause-cut
 returns-clause-cut g c = λ told stamp group guid old output to code line all image was_left bay resumes.
