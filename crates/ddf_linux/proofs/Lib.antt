@@ -8,3 +8,4 @@ mod NewPlaces
 mod SealedBelow
 mod SeenAnew
 mod FoundedDisks
+mod Standards

@@ -7,7 +7,7 @@ use Rattle.ddf_header.specs.Header.{header_signature}
 use Rattle.ddf_linux.specs.Crcs.{constant_of, IsLinuxSealed}
 use Rattle.ddf_linux.specs.CrcLaws.{sealed_from_linux, linux_from_sealed}
 use Rattle.ddf_linux.specs.Kinds.{kind_by, kind_if}
-use Rattle.ddf_linux.specs.Places.{places_of, is_first, kind_constant, constant_if, constant_at, lie_from, copies_lie_from}
+use Rattle.ddf_linux.specs.Places.{places_of, is_first, kind_constant, constant_if, constant_at, lie_from, copies_lie_from, signature_of}
 use Rattle.ddf_linux.specs.Layouts.{records_with}
 use Rattle.ddf_linux.specs.declared.places.Copies.{Copies}
 use Rattle.ddf_linux.specs.declared.places.Places.{Places}
@@ -47,10 +47,10 @@ before_copies (Some copies) end l signature lie under =
     let second : l < copies.secondary = grind (arith, common_steps) in
     before_both copies (records_with copies.layout signature) l first second
 
-pub before_places : (places : Places) (end l signature : ℕ) → lie_from places end ≡ true → l < end → is_some (constant_at places l signature) ≡ false
+pub before_places : (places : Places) (end l : ℕ) (bytes : List ℕ) → lie_from places end ≡ true → l < end → is_some (constant_at places l bytes) ≡ false
 unfolding constant_at
-before_places places end l signature lie under =
+before_places places end l bytes lie under =
     let anchor : l < places.anchor = grind (arith, common_steps) in
     let copies : copies_lie_from places.copies end ≡ true = grind (arith, common_steps) in
-    let none = before_copies places.copies end l signature copies under in
+    let none = before_copies places.copies end l (signature_of bytes) copies under in
     grind (arith, common_steps)

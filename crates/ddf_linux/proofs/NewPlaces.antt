@@ -1,5 +1,5 @@
 -- Which sectors of a new disk are turned: the first of each record, and the anchor.
-use Rattle.std.proofs.Common.{◌≡◌, ◌⊎◌, ℕ, zero, suc, ◌+◌, ◌-◌, ◌*◌, ◌/◌, ◌%◌, ◌<◌, ◌≤◌, Bool, true, false, not, ◌&&◌, ◌||◌, eqb, leb, cond, Option, Some, None, ⊎_elim, refl, ap, sym, ◌∙◌, subst, arith}
+use Rattle.std.proofs.Common.{◌≡◌, ◌⊎◌, ℕ, zero, suc, ◌+◌, ◌-◌, ◌*◌, ◌/◌, ◌%◌, ◌<◌, ◌≤◌, Bool, true, false, not, ◌&&◌, ◌||◌, eqb, leb, cond, List, Option, Some, None, ⊎_elim, refl, ap, sym, ◌∙◌, subst, arith}
 use Rattle.std.proofs.lemmas.Bool.{and_parts, cases_eq, cases_lt, eq-eqb, le-leb, le-ltb, lt-leb, ne_eqb}
 use Rattle.std.proofs.lemmas.Nat.{le-div}
 use Rattle.ddf_header.specs.Header.{header_signature}
@@ -12,7 +12,7 @@ use Rattle.ddf_linux.specs.declared.places.Copies.{Copies}
 use Rattle.ddf_linux.specs.declared.records.Records.{Records}
 use Rattle.ddf_linux.specs.Crcs.{constant_of}
 use Rattle.ddf_linux.specs.Layouts.{layout_of, records_with}
-use Rattle.ddf_linux.specs.Places.{constant_at, copies_constant, is_first, kind_constant, new_places, stands_at}
+use Rattle.ddf_linux.specs.Places.{constant_at, copies_constant, is_first, kind_constant, names, new_places, signature_of, stands_at}
 use Rattle.ddf_linux.proofs.Listed.{before_header}
 
 -- ---- the records
@@ -189,27 +189,31 @@ module _ (layout : NewLayout) (size : ℕ) (large : least_sectors layout ≤ siz
         ∙ ap (λ (b : Bool). cond b (Some own.constant) None) (begins own first)
 
   -- the constant by the copies that a new disk has
-  by_own : (signature : ℕ) → constant_at (new_places layout size) (header + behind) signature
-      ≡ copies_constant (own_copies (constant_of 512) (constant_of (512 * table_sectors_of layout)) (constant_of (512 * record_length_of layout))) (header + behind) signature
+  by_own : (bytes : List ℕ) → constant_at (new_places layout size) (header + behind) bytes
+      ≡ copies_constant (own_copies (constant_of 512) (constant_of (512 * table_sectors_of layout)) (constant_of (512 * record_length_of layout))) (header + behind) (signature_of bytes)
   unfolding constant_at
-  by_own signature =
-      rw (no_anchor signature)
-      (ap (λ (found : Layout). copies_constant (record { primary = size - primary_back layout; secondary = size - secondary_back layout; layout = found }) (header + behind) signature) (layout_is layout size))
+  by_own bytes =
+      rw (no_anchor (signature_of bytes))
+      (ap (λ (found : Layout). copies_constant (record { primary = size - primary_back layout; secondary = size - secondary_back layout; layout = found }) (header + behind) (signature_of bytes)) (layout_is layout size))
 
   -- the first sector of a record is turned by its constant
   pub turned_at : (signature : ℕ) (own : Records) → records_with (own_records layout) signature ≡ Some own → is_first own 0 behind ≡ true
-      → constant_at (new_places layout size) (header + behind) signature ≡ Some own.constant
-  turned_at signature own is first = by_own signature ∙ lookup (constant_of 512) (constant_of (512 * table_sectors_of layout)) (constant_of (512 * record_length_of layout)) signature own is first
+      → (bytes : List ℕ) → signature_of bytes ≡ signature → constant_at (new_places layout size) (header + behind) bytes ≡ Some own.constant
+  turned_at signature own is first bytes begins =
+      by_own bytes
+      ∙ ap (λ (n : ℕ). copies_constant (own_copies (constant_of 512) (constant_of (512 * table_sectors_of layout)) (constant_of (512 * record_length_of layout))) (header + behind) n) begins
+      ∙ lookup (constant_of 512) (constant_of (512 * table_sectors_of layout)) (constant_of (512 * record_length_of layout)) signature own is first
 
   -- a sector that begins no record isn't
   pub none_turned : none_begins layout (constant_of 512) (constant_of (512 * table_sectors_of layout)) (constant_of (512 * record_length_of layout)) behind ≡ true
-      → (signature : ℕ) → constant_at (new_places layout size) (header + behind) signature ≡ None
-  none_turned none signature = by_own signature ∙ no_lookup (constant_of 512) (constant_of (512 * table_sectors_of layout)) (constant_of (512 * record_length_of layout)) signature none
+      → (bytes : List ℕ) → constant_at (new_places layout size) (header + behind) bytes ≡ None
+  none_turned none bytes = by_own bytes ∙ no_lookup (constant_of 512) (constant_of (512 * table_sectors_of layout)) (constant_of (512 * record_length_of layout)) (signature_of bytes) none
 
 -- the anchor is turned as a record of a sector is
-pub anchor_turned : (layout : NewLayout) (size : ℕ) → constant_at (new_places layout size) (size - 1) header_signature ≡ Some (constant_of 512)
+pub anchor_turned : (layout : NewLayout) (size : ℕ) (bytes : List ℕ) → signature_of bytes ≡ header_signature → names (new_places layout size) bytes ≡ true
+    → constant_at (new_places layout size) (size - 1) bytes ≡ Some (constant_of 512)
 unfolding constant_at
-anchor_turned layout size = rw (eq-eqb (size - 1) (size - 1) refl) refl
+anchor_turned layout size bytes begins named = rw (begins, eq-eqb (size - 1) (size - 1) refl, named) refl
 
 -- ---- tables
 

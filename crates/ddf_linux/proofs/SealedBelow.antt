@@ -54,9 +54,9 @@ use Rattle.ddf_linux.specs.declared.records.Records.{Records}
 use Rattle.ddf_linux.specs.Crcs.{IsLinuxSealed, constant_of}
 use Rattle.ddf_linux.specs.CrcLaws.{linux_from_standard, turned_front}
 use Rattle.ddf_linux.specs.Founded.{AreSlotsForLinux, IsCopyForLinux, below}
-use Rattle.ddf_linux.specs.Kinds.{signature_of, turned_by}
+use Rattle.ddf_linux.specs.Kinds.{turned_by}
 use Rattle.ddf_linux.specs.Layouts.{records_with}
-use Rattle.ddf_linux.specs.Places.{constant_at, is_first, new_places}
+use Rattle.ddf_linux.specs.Places.{constant_at, is_first, new_places, signature_of}
 use Rattle.ddf_linux.specs.Turning.{turned}
 use Rattle.ddf_linux.specs.TurnLaws.{turn_length, turn_signature}
 use Rattle.ddf_linux.proofs.NewPlaces.{GoesOn, IsNewHeader, arrays_begin, arrays_go_on, disk_data_begins, disks_begin, disks_go_on, log_begins, none_turned, own_records, slot_begins, slot_goes_on, slots_behind, turned_at}
@@ -120,18 +120,22 @@ module _ (layout : NewLayout) (size : ℕ) (seen : ℕ → List ℕ) (whole : (l
   kind = Turned (new_places layout size)
 
   -- a sector that isn't turned
-  pub same_below : (l : ℕ) → ((signature : ℕ) → constant_at (new_places layout size) l signature ≡ None) → below kind seen l ≡ seen l
-  same_below l none = ap (λ (constant : Option ℕ). turned_by constant (seen l)) (none (signature_of (seen l)))
+  pub same_below : (l : ℕ) → ((bytes : List ℕ) → constant_at (new_places layout size) l bytes ≡ None) → below kind seen l ≡ seen l
+  same_below l none = ap (λ (constant : Option ℕ). turned_by constant (seen l)) (none (seen l))
+
+  -- a sector is turned so where it begins with a signature
+  abbrev pub IsTurnedBy : (l signature constant : ℕ) → Type 0
+  IsTurnedBy l signature constant = signature_of (seen l) ≡ signature → constant_at (new_places layout size) l (seen l) ≡ Some constant
 
   -- a record that begins with a turned sector
-  pub sealed_below : (l signature : ℕ) (rest : List ℕ) → signature < 2 ^ 32 → constant_at (new_places layout size) l signature ≡ Some (constant_of (512 + length rest))
+  pub sealed_below : (l signature : ℕ) (rest : List ℕ) → signature < 2 ^ 32 → IsTurnedBy l signature (constant_of (512 + length rest))
       → IsSealed signature (seen l ++ rest) → IsLinuxSealed signature (below kind seen l ++ rest)
   sealed_below l signature rest fits constant sealed =
       let bytes : List ℕ = seen l ++ rest in
       let size_of : length bytes ≡ 512 + length rest = length-append (seen l) rest ∙ ap (λ (n : ℕ). n + length rest) (whole l).size in
       let named : signature_of (seen l) ≡ signature = sym (signature_front (seen l) rest (whole l).size) ∙ signature_is signature bytes fits sealed in
       let first : below kind seen l ≡ turned (constant_of (512 + length rest)) (seen l) =
-      ap (λ (n : ℕ). turned_by (constant_at (new_places layout size) l n) (seen l)) named ∙ ap (λ (found : Option ℕ). turned_by found (seen l)) constant in
+      ap (λ (found : Option ℕ). turned_by found (seen l)) (constant named) in
       let whole_record : turned (constant_of (length bytes)) bytes ≡ below kind seen l ++ rest =
       ap (λ (n : ℕ). turned (constant_of n) bytes) size_of
       ∙ turned_front (constant_of (512 + length rest)) (seen l) rest (omega (arith, (whole l).size))
@@ -139,20 +143,20 @@ module _ (layout : NewLayout) (size : ℕ) (seen : ℕ → List ℕ) (whole : (l
       rw whole_record at (linux_from_standard signature bytes (omega (arith, size_of)) sealed)
 
   -- by the check of its seal
-  pub checked_below : (l signature : ℕ) (rest : List ℕ) → signature < 2 ^ 32 → AreBytes rest → constant_at (new_places layout size) l signature ≡ Some (constant_of (512 + length rest))
+  pub checked_below : (l signature : ℕ) (rest : List ℕ) → signature < 2 ^ 32 → AreBytes rest → IsTurnedBy l signature (constant_of (512 + length rest))
       → seal_check signature (seen l ++ rest) ≡ Ok tt → IsLinuxSealed signature (below kind seen l ++ rest)
   checked_below l signature rest fits are constant check =
       let long : 8 ≤ length (seen l ++ rest) = omega (arith, length-append (seen l) rest, (whole l).size) in
       sealed_below l signature rest fits constant (sealed_from_check signature (seen l ++ rest) long (append_bytes (seen l) rest (whole l).are_bytes are) check)
 
   -- a record of one sector
-  pub one_below : (l signature : ℕ) → signature < 2 ^ 32 → constant_at (new_places layout size) l signature ≡ Some (constant_of 512)
+  pub one_below : (l signature : ℕ) → signature < 2 ^ 32 → IsTurnedBy l signature (constant_of 512)
       → seal_check signature (seen l) ≡ Ok tt → IsLinuxSealed signature (below kind seen l)
   one_below l signature fits constant check =
       rw (append-nil (below kind seen l)) at (checked_below l signature [] fits (λ i. omega arith) constant (rw (append-nil (seen l)) check))
 
   -- sectors that aren't turned
-  same_run : (from count : ℕ) → ((l : ℕ) → from ≤ l → l < from + count → (signature : ℕ) → constant_at (new_places layout size) l signature ≡ None)
+  same_run : (from count : ℕ) → ((l : ℕ) → from ≤ l → l < from + count → (bytes : List ℕ) → constant_at (new_places layout size) l bytes ≡ None)
       → run (below kind seen) from count ≡ run seen from count
   same_run from zero none = refl
   same_run from (suc count) none =
@@ -161,20 +165,20 @@ module _ (layout : NewLayout) (size : ℕ) (seen : ℕ → List ℕ) (whole : (l
       ap (λ (sector : List ℕ). sector ++ run (below kind seen) (from + 1) count) first ∙ ap (λ (sectors : List ℕ). seen from ++ sectors) rest
 
   -- a record of so many sectors, of which the first alone is turned
-  pub record_below : (l count signature : ℕ) → 0 < count → signature < 2 ^ 32 → constant_at (new_places layout size) l signature ≡ Some (constant_of (512 * count))
-      → ((k : ℕ) → l < k → k < l + count → (other : ℕ) → constant_at (new_places layout size) k other ≡ None)
+  pub record_below : (l count signature : ℕ) → 0 < count → signature < 2 ^ 32 → IsTurnedBy l signature (constant_of (512 * count))
+      → ((k : ℕ) → l < k → k < l + count → (other : List ℕ) → constant_at (new_places layout size) k other ≡ None)
       → IsSealed signature (run seen l count) → IsLinuxSealed signature (run (below kind seen) l count)
   record_below l zero signature some fits constant none sealed = absurd (omega (arith, some))
   record_below l (suc count) signature some fits constant none sealed =
       let rest : List ℕ = run seen (l + 1) count in
       let long : 512 * suc count ≡ 512 + length rest = omega (arith, length_run seen (λ k. (whole k).size) (l + 1) count) in
-      let turns : constant_at (new_places layout size) l signature ≡ Some (constant_of (512 + length rest)) = constant ∙ ap (λ (n : ℕ). Some (constant_of n)) long in
+      let turns : IsTurnedBy l signature (constant_of (512 + length rest)) = λ named. constant named ∙ ap (λ (n : ℕ). Some (constant_of n)) long in
       let stays : run (below kind seen) (l + 1) count ≡ rest = same_run (l + 1) count (λ k ge lt. none k (omega (arith, ge)) (omega (arith, lt))) in
       subst (λ (sectors : List ℕ). IsLinuxSealed signature (below kind seen l ++ sectors)) (sym stays) (sealed_below l signature rest fits turns sealed)
 
   -- by the check of its seal, as a section that it fills
-  pub section_below : (l count signature : ℕ) → 0 < count → signature < 2 ^ 32 → constant_at (new_places layout size) l signature ≡ Some (constant_of (512 * count))
-      → ((k : ℕ) → l < k → k < l + count → (other : ℕ) → constant_at (new_places layout size) k other ≡ None)
+  pub section_below : (l count signature : ℕ) → 0 < count → signature < 2 ^ 32 → IsTurnedBy l signature (constant_of (512 * count))
+      → ((k : ℕ) → l < k → k < l + count → (other : List ℕ) → constant_at (new_places layout size) k other ≡ None)
       → seal_check signature (run seen l count) ≡ Ok tt → IsLinuxSealed signature (run (below kind seen) l count)
   section_below l count signature some fits constant none check =
       let long : 8 ≤ length (run seen l count) = omega (arith, length_run seen (λ k. (whole k).size) l count, some) in
@@ -353,7 +357,7 @@ module _ (layout : NewLayout) (size : ℕ) (large : least_sectors layout ≤ siz
 
   -- behind the first sector of a record that goes on nothing is turned
   none_within : (start sectors l : ℕ) → l ≡ header + start → start + sectors ≤ copy_length layout → GoesOn layout one table slots start sectors
-      → (k : ℕ) → l < k → k < l + sectors → (other : ℕ) → constant_at (new_places layout size) k other ≡ None
+      → (k : ℕ) → l < k → k < l + sectors → (other : List ℕ) → constant_at (new_places layout size) k other ≡ None
   none_within start sectors l is ends goes k behind within other =
       let later : ℕ = k - l in
       let here : header + (start + later) ≡ k = omega (arith, is, behind) in
@@ -366,9 +370,10 @@ module _ (layout : NewLayout) (size : ℕ) (large : least_sectors layout ≤ siz
       → seal_check signature (run seen l (table_sectors_of layout)) ≡ Ok tt → IsLinuxSealed signature (run under l (table_sectors_of layout))
   table_below start l signature own is ends fits named constant first goes check =
       let some = some_table layout in
-      let turns : constant_at (new_places layout size) l signature ≡ Some table =
-      ap (λ (n : ℕ). constant_at (new_places layout size) n signature) is
-      ∙ turned_at layout size large header start is_header (omega (arith, ends, some)) signature own named first ∙ ap (λ (n : ℕ). Some n) constant in
+      let turns : IsTurnedBy layout size seen whole l signature table =
+      λ begins.
+      ap (λ (n : ℕ). constant_at (new_places layout size) n (seen l)) is
+      ∙ turned_at layout size large header start is_header (omega (arith, ends, some)) signature own named first (seen l) begins ∙ ap (λ (n : ℕ). Some n) constant in
       section_below layout size seen whole l (table_sectors_of layout) signature some fits turns (none_within start (table_sectors_of layout) l is ends goes) check
 
   -- where a slot begins
@@ -384,9 +389,10 @@ module _ (layout : NewLayout) (size : ℕ) (large : least_sectors layout ≤ siz
       let start : ℕ = slots_behind layout + record_length_of layout * slot in
       let is : slot_at slot ≡ header + start = omega arith in
       let ends : start + record_length_of layout ≤ copy_length layout = omega (arith, within) in
-      let turns : constant_at (new_places layout size) (slot_at slot) signature ≡ Some slots =
-      ap (λ (n : ℕ). constant_at (new_places layout size) n signature) is
-      ∙ turned_at layout size large header start is_header (omega (arith, ends, some)) signature (own_records layout).configs (known_configs (own_records layout) signature known) (slot_begins layout one table slots slot lt) in
+      let turns : IsTurnedBy layout size seen whole (slot_at slot) signature slots =
+      λ begins.
+      ap (λ (n : ℕ). constant_at (new_places layout size) n (seen (slot_at slot))) is
+      ∙ turned_at layout size large header start is_header (omega (arith, ends, some)) signature (own_records layout).configs (known_configs (own_records layout) signature known) (slot_begins layout one table slots slot lt) (seen (slot_at slot)) begins in
       record_below layout size seen whole (slot_at slot) (record_length_of layout) signature some (known_fits signature known) turns
       (none_within start (record_length_of layout) (slot_at slot) is ends (slot_goes_on layout one table slots slot lt)) sealed
 
@@ -431,7 +437,7 @@ module _ (layout : NewLayout) (size : ℕ) (large : least_sectors layout ≤ siz
       let there = some_log_ok (in_section names.BadBlocks (decoded_log (seen (header + behind) ++ []))) log is in
       let check = first_passed table_faults.Seal (seal_check log_signature (seen (header + behind) ++ [])) _ _ there.0 (in_section_ok names.BadBlocks (decoded_log (seen (header + behind) ++ [])) there.0 there.1) in
       checked_below layout size seen whole (header + behind) log_signature [] (omega arith) (λ i. omega arith)
-      (turned_at layout size large header behind is_header (omega arith) log_signature (own_records layout).bad_blocks refl (log_begins layout one table slots)) check
+      (turned_at layout size large header behind is_header (omega arith) log_signature (own_records layout).bad_blocks refl (log_begins layout one table slots) (seen (header + behind))) check
 
   pub copy_below : (read : Header) (copy : DiskCopy) → read.geometry ≡ geometry → seal_check header_signature (seen header) ≡ Ok tt → IsPassed read (raw_at seen header geometry) copy
       → IsCopyForLinux geometry under header
@@ -440,17 +446,17 @@ module _ (layout : NewLayout) (size : ℕ) (large : least_sectors layout ≤ siz
       let are = run_bytes seen (λ l. (whole l).are_bytes) (header + slots_behind layout) (records_sectors layout) in
       let are_read : AreBytes (bytes_in (raw_at seen header geometry).records) = subst AreBytes (sym (records_read layout size header seen)) are in
       let decoded_here : decoded_slots geometry read.guid read.sequence (bytes_in (raw_at seen header geometry).records) ≡ Ok passed.slots = rw same_geometry at passed.are_slots in
-      let start : constant_at (new_places layout size) header header_signature ≡ Some one =
-      rw (add-zero header) at (turned_at layout size large header 0 is_header (omega arith) header_signature (own_records layout).header refl refl) in
+      let start : IsTurnedBy layout size seen whole header header_signature one =
+      rw (add-zero header) at (turned_at layout size large header 0 is_header (omega arith) header_signature (own_records layout).header refl refl (seen header)) in
       record {
         header = one_below layout size seen whole header header_signature (omega arith) start head;
         controller = one_below layout size seen whole (header + 1) controller_signature (omega arith)
-            (turned_at layout size large header 1 is_header (omega arith) controller_signature (own_records layout).controller refl refl) passed.controller;
+            (turned_at layout size large header 1 is_header (omega arith) controller_signature (own_records layout).controller refl refl (seen (header + 1))) passed.controller;
         disks = table_below 2 (header + 2) disk_signature (own_records layout).disks refl (omega arith) (omega arith) refl refl (disks_begin layout one table slots) (disks_go_on layout one table slots) passed.disks;
         arrays = table_below (2 + table_sectors_of layout) (header + (2 + table_sectors_of layout)) array_signature (own_records layout).arrays refl (omega arith) (omega arith) refl refl
             (arrays_begin layout one table slots) (arrays_go_on layout one table slots) passed.arrays;
         slots = slots_below (decoded_sealed geometry read.guid read.sequence (bytes_in (raw_at seen header geometry).records) passed.slots (new_room layout size) are_read decoded_here);
         disk_data = one_below layout size seen whole (header + (slots_behind layout + records_sectors layout)) disk_data_signature (omega arith)
-            (turned_at layout size large header (slots_behind layout + records_sectors layout) is_header (omega arith) disk_data_signature (own_records layout).disk_data refl (disk_data_begins layout one table slots)) passed.disk_data;
+            (turned_at layout size large header (slots_behind layout + records_sectors layout) is_header (omega arith) disk_data_signature (own_records layout).disk_data refl (disk_data_begins layout one table slots) (seen (header + (slots_behind layout + records_sectors layout)))) passed.disk_data;
         bad_blocks = log_below passed.log passed.is_log;
       }

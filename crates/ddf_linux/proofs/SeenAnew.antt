@@ -1,14 +1,17 @@
 -- What a bay that is made anew sees of a slot on which a disk was founded.
-use Rattle.std.proofs.Common.{◌≡◌, ◌⊎◌, ℕ, ◌-◌, ◌<◌, ◌≤◌, Bool, true, false, cond, eqb, List, ◌∷◌, Option, Some, Result, Ok, Err, inl, inr, refl, ap, sym, ◌∙◌, subst, arith}
+use Rattle.std.proofs.Common.{◌≡◌, ◌⊎◌, ℕ, ◌-◌, ◌<◌, ◌≤◌, Bool, true, false, cond, eqb, List, ◌∷◌, Option, Some, None, Result, Ok, Err, inl, inr, refl, ap, sym, ◌∙◌, subst, arith}
 use Rattle.std.proofs.Math.Path.{fun_ext}
-use Rattle.std.proofs.lemmas.Bool.{eqb-true, le-leb, ne_eqb}
-use Rattle.std.specs.Int.{w32, to_be_bytes}
+use Rattle.std.proofs.lemmas.Bool.{eq-eqb, eqb-true, le-leb, ne_eqb}
+use Rattle.std.specs.Int.{w32, w64, to_be_bytes}
+use Rattle.ddf_bytes.specs.Bytes.{number_at}
+use Rattle.ddf_bytes.specs.Choices.{ok_unless}
 use Rattle.ddf_seal.specs.Seal.{seal_check}
 use Rattle.ddf_header.specs.declared.fault.HeaderFault.{HeaderFault}
 use Rattle.ddf_header.specs.declared.geometry.Geometry.{Geometry}
 use Rattle.ddf_header.specs.declared.kind.HeaderKind.TheVariants.{Anchor}
 use Rattle.ddf_header.specs.declared.reading.Header.{Header}
-use Rattle.ddf_header.specs.Header.{decoded, header_signature}
+use Rattle.ddf_header.specs.declared.layout.TheConstants.{PRIMARY_LBA_AT, SECONDARY_LBA_AT}
+use Rattle.ddf_header.specs.Header.{decoded, first_fault, header_at, header_signature}
 use Rattle.ddf_copy.specs.declared.copy.DiskCopy.{DiskCopy}
 use Rattle.ddf_copy.specs.declared.fault.AnchorFault.TheVariants.{Blank}
 use Rattle.ddf_copy.specs.Anchor.{anchor_at, anchor_in, anchor_or_damage}
@@ -22,9 +25,9 @@ use Rattle.ddf_linux.specs.declared.places.Copies.{Copies}
 use Rattle.ddf_linux.specs.declared.places.Places.{Places}
 use Rattle.ddf_linux.specs.Crcs.{constant_of}
 use Rattle.ddf_linux.specs.Founded.{IsBlankOrWhole, IsOnNewDisk, IsWholeAnew, below, seen_anew}
-use Rattle.ddf_linux.specs.Kinds.{kind_by, kind_if, kind_of_sectors, may_be_founded, signature_of, turn, turned_by}
+use Rattle.ddf_linux.specs.Kinds.{kind_by, kind_if, kind_of_sectors, may_be_founded, turn, turned_by}
 use Rattle.ddf_linux.specs.Layouts.{layout_of}
-use Rattle.ddf_linux.specs.Places.{constant_at, copies_in, new_places, places_of}
+use Rattle.ddf_linux.specs.Places.{copies_in, names, new_places, places_of, signature_of}
 use Rattle.ddf_linux.specs.Turning.{turned}
 use Rattle.ddf_linux.specs.TurnLaws.{added_twice, turn_signature, turn_twice}
 use Rattle.ddf_linux.proofs.NewPlaces.{anchor_turned}
@@ -84,8 +87,27 @@ copies_at : (primary secondary : ℕ) → Geometry → Copies
 copies_at primary secondary geometry = record { primary = primary; secondary = secondary; layout = layout_of geometry }
 
 -- the places of a slot with these copies
-places_by : (size : ℕ) → Option Copies → Places
-places_by size copies = record { anchor = size - 1; constant = constant_of 512; copies = copies }
+places_by : (size primary secondary : ℕ) → Option Copies → Places
+places_by size primary secondary copies = record { anchor = size - 1; primary = primary; secondary = secondary; constant = constant_of 512; copies = copies }
+
+header_value : (found : Option HeaderFault) (header anchor : Header) → ok_unless found header ≡ Ok anchor → header ≡ anchor
+header_value None header anchor is = cc
+header_value (Some fault) header anchor is = cc
+
+-- an anchor that is read names its two headers in these bytes
+pub named_lbas : (bytes : List ℕ) (anchor : Header) → decoded Anchor bytes ≡ Ok anchor
+    → (number_at w64 bytes PRIMARY_LBA_AT ≡ anchor.primary_lba) × (number_at w64 bytes SECONDARY_LBA_AT ≡ anchor.secondary_lba)
+named_lbas bytes anchor is =
+    let value = header_value (first_fault Anchor bytes) (header_at Anchor bytes) anchor is in
+    (ap (λ (header : Header). header.primary_lba) value, ap (λ (header : Header). header.secondary_lba) value)
+
+-- so it names those of a new disk where it is such a disk's
+pub new_names : (layout : NewLayout) (size : ℕ) (bytes : List ℕ) (anchor : Header) → decoded Anchor bytes ≡ Ok anchor → IsOnNewDisk layout size anchor
+    → names (new_places layout size) bytes ≡ true
+unfolding names
+new_names layout size bytes anchor is on_disk =
+    let lbas = named_lbas bytes anchor is in
+    rw (lbas.0 ∙ on_disk.primary_is, lbas.1 ∙ on_disk.secondary_is, eq-eqb (size - primary_back layout) (size - primary_back layout) refl, eq-eqb (size - secondary_back layout) (size - secondary_back layout) refl) refl
 
 module _ (layout : NewLayout) (size : ℕ) (large : least_sectors layout ≤ size) (seen : ℕ → List ℕ) where
   some : 0 < size
@@ -108,14 +130,24 @@ module _ (layout : NewLayout) (size : ℕ) (large : least_sectors layout ≤ siz
     last_under : under (size - 1) ≡ turned (constant_of 512) (seen (size - 1))
     last_under =
         let here : signature_of (seen (size - 1)) ≡ header_signature = eqb-true (signature_of (seen (size - 1))) header_signature (anchor_named size some seen anchor is_anchor).0 in
-        ap (λ (n : ℕ). turned_by (constant_at (new_places layout size) (size - 1) n) (seen (size - 1))) here
-        ∙ ap (λ (found : Option ℕ). turned_by found (seen (size - 1))) (anchor_turned layout size)
+        ap (λ (found : Option ℕ). turned_by found (seen (size - 1)))
+        (anchor_turned layout size (seen (size - 1)) here (new_names layout size (seen (size - 1)) anchor (anchor_named size some seen anchor is_anchor).1 on_disk))
 
     last_back : turned (constant_of 512) (under (size - 1)) ≡ seen (size - 1)
     last_back = ap (turned (constant_of 512)) last_under ∙ added_twice (seen (size - 1)) (0 ∷ 0 ∷ 0 ∷ 0 ∷ to_be_bytes w32 (constant_of 512))
 
+    -- the two LBAs that the anchor's bytes name
+    abbrev primary_read : ℕ
+    primary_read = number_at w64 (seen (size - 1)) PRIMARY_LBA_AT
+
+    abbrev secondary_read : ℕ
+    secondary_read = number_at w64 (seen (size - 1)) SECONDARY_LBA_AT
+
     is_read : decoded Anchor (seen (size - 1)) ≡ Ok anchor
     is_read = (anchor_named size some seen anchor is_anchor).1
+
+    lbas : (primary_read ≡ anchor.primary_lba) × (secondary_read ≡ anchor.secondary_lba)
+    lbas = named_lbas (seen (size - 1)) anchor is_read
 
     copies_same : copies_in (Ok anchor) ≡ (new_places layout size).copies
     unfolding copies_at
@@ -131,8 +163,10 @@ module _ (layout : NewLayout) (size : ℕ) (large : least_sectors layout ≤ siz
         rw (some_size size some)
         (ap (λ (sector : List ℕ). kind_if (seal_check header_signature sector) (places_of (size - 1) sector)) last_back
         ∙ ap (λ (check : _). kind_if check (places_of (size - 1) (seen (size - 1)))) (header_passed Anchor (seen (size - 1)) anchor is_read)
-        ∙ ap (λ (read : Result Header HeaderFault). Turned (places_by size (copies_in read))) is_read
-        ∙ ap (λ (copies : Option Copies). Turned (places_by size copies)) copies_same)
+        ∙ ap (λ (read : Result Header HeaderFault). Turned (places_by size primary_read secondary_read (copies_in read))) is_read
+        ∙ ap (λ (copies : Option Copies). Turned (places_by size primary_read secondary_read copies)) copies_same
+        ∙ ap (λ (lba : ℕ). Turned (places_by size lba secondary_read (new_places layout size).copies)) (lbas.0 ∙ on_disk.primary_is)
+        ∙ ap (λ (lba : ℕ). Turned (places_by size (size - primary_back layout) lba (new_places layout size).copies)) (lbas.1 ∙ on_disk.secondary_is))
 
     -- so all of it is seen as it was
     pub same_anew : seen_anew size under ≡ seen

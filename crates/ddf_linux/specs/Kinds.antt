@@ -1,12 +1,9 @@
 -- How a slot is seen: as it is, or turned where its anchor is sealed in Linux's kind. One whose last sector could not be
 -- read is neither.
 use Rattle.std.specs.Prelude.{◌≡◌, ℕ, ◌-◌, ◌<◌, Bool, true, false, not, ◌&&◌, nat_le, ◌==◌, IsTrue, ◌↔◌, if◌then◌else◌, List, Option, Some, None, is_some, Result, Ok, Err, slice_index_or}
-use Rattle.std.specs.Int.{w32}
-use Rattle.ddf_bytes.specs.Bytes.{number_at}
 use Rattle.ddf_bay.specs.State.{BayState, size_of}
 use Rattle.ddf_seal.specs.Seal.{seal_check}
 use Rattle.ddf_seal.specs.declared.sealing.SealFault.{SealFault}
-use Rattle.ddf_seal.specs.declared.sealing.TheConstants.{SIGNATURE_AT}
 use Rattle.ddf_header.specs.Header.{header_signature}
 use Rattle.ddf_update.specs.declared.new_layout.NewLayout.{NewLayout}
 use Rattle.ddf_update.specs.NewLayouts.{least_sectors}
@@ -14,7 +11,7 @@ use Rattle.ddf_linux.specs.declared.kind.SlotKind.{SlotKind}
 use Rattle.ddf_linux.specs.declared.kind.SlotKind.TheVariants.{Plain, Unread, Turned}
 use Rattle.ddf_linux.specs.declared.places.Places.{Places}
 use Rattle.ddf_linux.specs.Crcs.{constant_of, IsLinuxSealed}
-use Rattle.ddf_linux.specs.Places.{constant_at, new_places, places_of}
+use Rattle.ddf_linux.specs.Places.{constant_at, new_places, places_of, signature_of}
 use Rattle.ddf_linux.specs.Turning.{turned}
 
 abbrev pub is_turned : SlotKind → Bool
@@ -57,10 +54,6 @@ pub record IsKindOf {D : Type 0} (disks : BayState D) (slot : ℕ) (kind : SlotK
 
 -- ---- by its size alone
 
--- the number that a sector begins with
-abbrev pub signature_of : List ℕ → ℕ
-signature_of bytes = number_at w32 bytes SIGNATURE_AT
-
 -- A disk of a layout may be founded on a slot: there is room for one, and its last sector begins as no anchor.
 abbrev pub may_be_founded : NewLayout → (size : ℕ) → (last : List ℕ) → Bool
 may_be_founded layout size last = nat_le (least_sectors layout) size && not (signature_of last == header_signature)
@@ -82,15 +75,15 @@ pub record IsSeenAs {D : Type 0} (founds : Option NewLayout) (disks : BayState D
 
 -- ---- by the sector
 
--- what is added to the CRC of a sector of the slot, by its LBA and the number that it begins with
-abbrev pub kind_constant : SlotKind → ℕ → ℕ → Option ℕ
-kind_constant (Turned places) lba signature = constant_at places lba signature
-kind_constant Plain lba signature = None
-kind_constant Unread lba signature = None
+-- what is added to the CRC of a sector of the slot, by its LBA and its bytes
+abbrev pub kind_constant : SlotKind → ℕ → List ℕ → Option ℕ
+kind_constant (Turned places) lba bytes = constant_at places lba bytes
+kind_constant Plain lba bytes = None
+kind_constant Unread lba bytes = None
 
 -- a sector is one of those that are turned
 abbrev pub turns : SlotKind → ℕ → List ℕ → Bool
-turns kind lba bytes = is_some (kind_constant kind lba (signature_of bytes))
+turns kind lba bytes = is_some (kind_constant kind lba bytes)
 
 abbrev pub turned_by : Option ℕ → List ℕ → List ℕ
 turned_by None bytes = bytes
@@ -98,7 +91,7 @@ turned_by (Some constant) bytes = turned constant bytes
 
 -- a sector, turned if it is one of those
 abbrev pub turn : SlotKind → ℕ → List ℕ → List ℕ
-turn kind lba bytes = turned_by (kind_constant kind lba (signature_of bytes)) bytes
+turn kind lba bytes = turned_by (kind_constant kind lba bytes) bytes
 
 -- the kind of a slot in a list of them
 abbrev pub kind_at : List SlotKind → ℕ → SlotKind

@@ -1,9 +1,13 @@
 -- Which sectors of a slot are turned: those that lie where a sealed record of its anchor's copies may begin, and begin with
 -- the signature of such a record.
 use Rattle.std.specs.Prelude.{ℕ, ◌+◌, ◌-◌, ◌/◌, ◌%◌, Bool, true, not, ◌&&◌, ◌||◌, ◌==◌, nat_le, nat_lt, if◌then◌else◌, List, Option, Some, None, Result, Ok, Err}
+use Rattle.std.specs.Int.{w32, w64}
+use Rattle.ddf_bytes.specs.Bytes.{number_at}
+use Rattle.ddf_seal.specs.declared.sealing.TheConstants.{SIGNATURE_AT}
 use Rattle.ddf_header.specs.declared.kind.HeaderKind.TheVariants.{Anchor}
 use Rattle.ddf_header.specs.declared.reading.Header.{Header}
 use Rattle.ddf_header.specs.declared.fault.HeaderFault.{HeaderFault}
+use Rattle.ddf_header.specs.declared.layout.TheConstants.{PRIMARY_LBA_AT, SECONDARY_LBA_AT}
 use Rattle.ddf_header.specs.Header.{decoded, header_signature}
 use Rattle.ddf_update.specs.declared.new_layout.NewLayout.{NewLayout}
 use Rattle.ddf_update.specs.NewCopies.{new_geometry}
@@ -26,12 +30,20 @@ copies_of anchor = copies_in (decoded Anchor anchor)
 
 -- the places of a slot whose last sector, turned, is this anchor
 abbrev pub places_of : ℕ → List ℕ → Places
-places_of last anchor = record { anchor = last; constant = constant_of 512; copies = copies_of anchor }
+places_of last anchor = record {
+  anchor = last;
+  primary = number_at w64 anchor PRIMARY_LBA_AT;
+  secondary = number_at w64 anchor SECONDARY_LBA_AT;
+  constant = constant_of 512;
+  copies = copies_of anchor;
+}
 
 -- the places of a new disk of a layout and of so many sectors
 abbrev pub new_places : NewLayout → (size : ℕ) → Places
 new_places layout size = record {
   anchor = size - 1;
+  primary = size - primary_back layout;
+  secondary = size - secondary_back layout;
   constant = constant_of 512;
   copies = Some (record { primary = size - primary_back layout; secondary = size - secondary_back layout; layout = layout_of (new_geometry layout size) });
 }
@@ -71,8 +83,17 @@ abbrev pub constant_if : Option Copies → ℕ → ℕ → Option ℕ
 constant_if None lba signature = None
 constant_if (Some copies) lba signature = copies_constant copies lba signature
 
--- and of any sector of the slot: the anchor is turned too
-unfoldable pub constant_at : Places → ℕ → ℕ → Option ℕ
-constant_at places lba signature =
-    if (signature == header_signature) && (lba == places.anchor) then Some places.constant
-    else constant_if places.copies lba signature
+-- the number that a sector begins with
+abbrev pub signature_of : List ℕ → ℕ
+signature_of bytes = number_at w32 bytes SIGNATURE_AT
+
+-- an anchor names the two headers where they were when the places were fixed
+unfoldable pub names : Places → List ℕ → Bool
+names places bytes = (number_at w64 bytes PRIMARY_LBA_AT == places.primary) && (number_at w64 bytes SECONDARY_LBA_AT == places.secondary)
+
+-- And of any sector of the slot: the anchor is turned too, but for one that names other places.
+unfoldable pub constant_at : Places → ℕ → List ℕ → Option ℕ
+constant_at places lba bytes =
+    if (signature_of bytes == header_signature) && (lba == places.anchor)
+    then (if names places bytes then Some places.constant else None)
+    else constant_if places.copies lba (signature_of bytes)

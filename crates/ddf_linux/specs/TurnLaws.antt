@@ -1,17 +1,22 @@
 -- Turning is its own inverse and keeps the length and the signature.
-use Rattle.std.specs.Prelude.{◌≡◌, ◌⊎◌, ◌<◌, ◌≤◌, ℕ, zero, suc, slice_index, List, [], ◌∷◌, length, bit_xor, Option, Some, None, is_some, false, take}
+use Rattle.std.specs.Prelude.{◌≡◌, ◌⊎◌, ◌<◌, ◌≤◌, ℕ, zero, suc, slice_index, List, [], ◌∷◌, length, bit_xor, Option, Some, None, is_some, false, take, drop}
 use Rattle.std.specs.Int.Bits.{xor_self, xor_zero_r}
 use lib.Bits.{xor_assoc}
 use Rattle.std.proofs.Common.{refl, ap, sym, ◌∙◌, subst, arith}
 use Rattle.std.proofs.lemmas.Nat.{xor_lt}
-use Rattle.std.specs.Int.{w32, to_be_bytes}
+use Rattle.std.specs.Int.{w32, w64, from_be_bytes, to_be_bytes}
+use Rattle.ddf_bytes.specs.Bytes.{number_at}
+use Rattle.ddf_header.specs.declared.layout.TheConstants.{PRIMARY_LBA_AT, SECONDARY_LBA_AT}
 use Rattle.ddf_linux.specs.Turning.{added}
 use Rattle.ddf_bay.specs.Sectors.{Image, Outcomes, IsLeft, IsWhole}
 use Rattle.ddf_bay.specs.State.{BayState}
 use Rattle.ddf_bay.specs.Moments.{StopsLeave}
 use Rattle.ddf_linux.specs.declared.kind.SlotKind.{SlotKind}
+use Rattle.ddf_linux.specs.declared.kind.SlotKind.TheVariants.{Plain, Unread, Turned}
 use Rattle.ddf_linux.specs.State.{turned_image}
-use Rattle.ddf_linux.specs.Kinds.{kind_at, kind_constant, signature_of, turned_by, turn, turns}
+use Rattle.ddf_linux.specs.Kinds.{kind_at, kind_constant, turned_by, turn, turns}
+use Rattle.ddf_linux.specs.Places.{constant_at, names, signature_of}
+use Rattle.ddf_linux.specs.declared.places.Places.{Places}
 
 pub xor_twice : (a m : ℕ) → bit_xor (bit_xor a m) m ≡ a
 xor_twice a m = xor_assoc a m m ∙ ap (bit_xor a) (xor_self m) ∙ xor_zero_r a
@@ -29,7 +34,7 @@ added_length [] (m ∷ mask) = refl
 added_length (byte ∷ bytes) (m ∷ mask) = rw (added_length bytes mask) refl
 
 -- bytes stay bytes
-abbrev are_bytes : List ℕ → Type 0
+abbrev pub are_bytes : List ℕ → Type 0
 are_bytes bytes = (i : ℕ) → slice_index bytes i < 256
 
 added_bytes : (bytes mask : List ℕ) → are_bytes bytes → are_bytes mask → are_bytes (added bytes mask)
@@ -62,6 +67,33 @@ pub by_signature : (constant : Option ℕ) (bytes : List ℕ) → signature_of (
 by_signature None bytes = refl
 by_signature (Some constant) bytes = rw (front_same bytes (to_be_bytes w32 constant)) refl
 
+-- behind the bytes that are turned nothing changes
+pub behind_same : (bytes mask : List ℕ) (n : ℕ) → length mask ≤ n → drop n (added bytes mask) ≡ drop n bytes
+unfolding added
+behind_same bytes [] n le = refl
+behind_same [] (m ∷ mask) n le = refl
+behind_same (byte ∷ bytes) (m ∷ mask) zero le = absurd (omega (arith, le))
+behind_same (byte ∷ bytes) (m ∷ mask) (suc n) le = behind_same bytes mask n (omega (arith, le))
+
+-- so an anchor that is turned names the places that it named
+pub by_names : (places : Places) (constant : Option ℕ) (bytes : List ℕ) → names places (turned_by constant bytes) ≡ names places bytes
+unfolding names
+by_names places None bytes = refl
+by_names places (Some constant) bytes =
+    let mask : List ℕ = 0 ∷ 0 ∷ 0 ∷ 0 ∷ to_be_bytes w32 constant in
+    let first : number_at w64 (added bytes mask) PRIMARY_LBA_AT ≡ number_at w64 bytes PRIMARY_LBA_AT =
+    ap (λ (rest : List ℕ). from_be_bytes w64 (take 8 rest)) (behind_same bytes mask PRIMARY_LBA_AT (omega arith)) in
+    let second : number_at w64 (added bytes mask) SECONDARY_LBA_AT ≡ number_at w64 bytes SECONDARY_LBA_AT =
+    ap (λ (rest : List ℕ). from_be_bytes w64 (take 8 rest)) (behind_same bytes mask SECONDARY_LBA_AT (omega arith)) in
+    rw (first, second) refl
+
+-- and a sector that is turned is one of those that are, as before
+pub by_constant : (kind : SlotKind) (lba : ℕ) (constant : Option ℕ) (bytes : List ℕ) → kind_constant kind lba (turned_by constant bytes) ≡ kind_constant kind lba bytes
+unfolding constant_at
+by_constant Plain lba constant bytes = refl
+by_constant Unread lba constant bytes = refl
+by_constant (Turned places) lba constant bytes = rw (by_signature constant bytes, by_names places constant bytes) refl
+
 pub by_twice : (constant : Option ℕ) (bytes : List ℕ) → turned_by constant (turned_by constant bytes) ≡ bytes
 by_twice None bytes = refl
 by_twice (Some constant) bytes = added_twice bytes (0 ∷ 0 ∷ 0 ∷ 0 ∷ to_be_bytes w32 constant)
@@ -70,25 +102,25 @@ pub by_length : (constant : Option ℕ) (bytes : List ℕ) → length (turned_by
 by_length None bytes = refl
 by_length (Some constant) bytes = added_length bytes (0 ∷ 0 ∷ 0 ∷ 0 ∷ to_be_bytes w32 constant)
 
-by_bytes : (constant : Option ℕ) (bytes : List ℕ) → are_bytes bytes → are_bytes (turned_by constant bytes)
+pub by_bytes : (constant : Option ℕ) (bytes : List ℕ) → are_bytes bytes → are_bytes (turned_by constant bytes)
 by_bytes None bytes are = are
 by_bytes (Some constant) bytes are = added_bytes bytes (0 ∷ 0 ∷ 0 ∷ 0 ∷ to_be_bytes w32 constant) are (mask_bytes constant)
 
 module _ (kind : SlotKind) (lba : ℕ) (bytes : List ℕ) where
   pub turn_signature : signature_of (turn kind lba bytes) ≡ signature_of bytes
-  turn_signature = by_signature (kind_constant kind lba (signature_of bytes)) bytes
+  turn_signature = by_signature (kind_constant kind lba bytes) bytes
 
   -- turning is its own inverse
   pub turn_twice : turn kind lba (turn kind lba bytes) ≡ bytes
   turn_twice =
-      ap (λ (signature : ℕ). turned_by (kind_constant kind lba signature) (turn kind lba bytes)) turn_signature
-      ∙ by_twice (kind_constant kind lba (signature_of bytes)) bytes
+      ap (λ (constant : Option ℕ). turned_by constant (turn kind lba bytes)) (by_constant kind lba (kind_constant kind lba bytes) bytes)
+      ∙ by_twice (kind_constant kind lba bytes) bytes
 
   pub turn_length : length (turn kind lba bytes) ≡ length bytes
-  turn_length = by_length (kind_constant kind lba (signature_of bytes)) bytes
+  turn_length = by_length (kind_constant kind lba bytes) bytes
 
   turn_bytes : are_bytes bytes → are_bytes (turn kind lba bytes)
-  turn_bytes are = by_bytes (kind_constant kind lba (signature_of bytes)) bytes are
+  turn_bytes are = by_bytes (kind_constant kind lba bytes) bytes are
 
 -- a sector that a stop may leave is whole
 pub turned_whole : (kind : SlotKind) (lba : ℕ) (bytes : List ℕ) → IsWhole (turn kind lba bytes) → IsWhole bytes
@@ -103,7 +135,7 @@ by_none None bytes none = refl
 by_none (Some constant) bytes none = absurd cc
 
 pub turn_plain : (kind : SlotKind) (lba : ℕ) (bytes : List ℕ) → turns kind lba bytes ≡ false → turn kind lba bytes ≡ bytes
-turn_plain kind lba bytes none = by_none (kind_constant kind lba (signature_of bytes)) bytes none
+turn_plain kind lba bytes none = by_none (kind_constant kind lba bytes) bytes none
 
 -- the bay as it reads is one of its images, turned too
 pub turned_left : (kinds : List SlotKind) (may : Outcomes) (held : Image) → IsLeft may held

@@ -4,7 +4,7 @@ ghost use Rattle.std.specs.Prelude.{◌≡◌, ◌↔◌, ◌<◌, ◌≤◌, �
 ghost use Rattle.ddf_header.specs.Header.{header_signature};
 ghost use Rattle.ddf_update.specs.NewLayouts.{least_sectors};
 ghost use Rattle.ddf_linux.specs.Crcs.{IsLinuxSealed};
-ghost use Rattle.ddf_linux.specs.Kinds.{kind_by, founded_kind, is_founded, is_turned, is_unread, kind_constant, may_be_founded, signature_of, turn, turns};
+ghost use Rattle.ddf_linux.specs.Kinds.{kind_by, founded_kind, is_founded, is_turned, is_unread, kind_constant, may_be_founded, turn, turns};
 ghost use Rattle.ddf_linux.specs.Pieces.{turns_at};
 
 use crate::crcs::add;
@@ -82,10 +82,10 @@ impl SlotKind {
 
     /// What is added to the CRC of a sector, if it is one of those that are turned.
     fn constant_at(&self, lba: u64, sector: &Sector) -> Option<u32>
-        ensures { result ≡ kind_constant self.now lba (signature_of sector.now) }
+        ensures { result ≡ kind_constant self.now lba sector.now }
     {
         match self {
-            SlotKind::Turned(places) => places.constant_at(lba, be32(sector, 0)),
+            SlotKind::Turned(places) => places.constant_at(lba, sector),
             SlotKind::Plain | SlotKind::Unread => None,
         }
     }

@@ -1,10 +1,12 @@
 //! Laws of disks that are founded for Linux: functions that do nothing, whose contracts are the laws.
-ghost use Rattle.std.specs.Prelude.{◌≡◌, ◌⊎◌, ◌<◌, ◌≤◌, ℕ, List, Some, Err, slice_get, slice_index};
+ghost use Rattle.std.specs.Prelude.{◌≡◌, ◌⊎◌, ◌-◌, ◌<◌, ◌≤◌, ℕ, false, List, Some, Err, slice_get, slice_index};
 ghost use Rattle.ddf_bytes.specs.declared.stamp.Stamp.{Stamp};
 ghost use Rattle.ddf_bay.specs.ReadsOnly.{ReadsOnly};
-ghost use Rattle.ddf_bay.specs.Sectors.{Image, IsLeft};
+ghost use Rattle.ddf_bay.specs.Sectors.{Image, IsLeft, IsWhole};
 ghost use Rattle.ddf_bay.specs.State.{size_of};
+ghost use Rattle.ddf_seal.specs.Seal.{IsSealed};
 ghost use Rattle.ddf_header.specs.declared.kind.Revision.{Revision};
+ghost use Rattle.ddf_header.specs.Header.{header_signature};
 ghost use Rattle.ddf_copy.specs.declared.copy.DiskCopy.{DiskCopy};
 ghost use Rattle.ddf_copy.specs.declared.fault.AnchorFault.TheVariants.{Blank};
 ghost use Rattle.ddf_copy.specs.Anchor.{anchor_at};
@@ -17,8 +19,9 @@ ghost use Rattle.ddf_update.specs.Update.{AreBoth};
 ghost use Rattle.ddf_linux.specs.declared.kind.SlotKind.{SlotKind};
 ghost use Rattle.ddf_linux.specs.declared.turned.Turned.{Turned};
 ghost use Rattle.ddf_linux.specs.Founded.{IsBlankOrWhole, IsDiskForLinux, IsOnNewDisk, below};
-ghost use Rattle.ddf_linux.specs.Kinds.{IsSeenAs};
-ghost use Rattle.ddf_linux.specs.Places.{new_places};
+ghost use Rattle.ddf_linux.specs.declared.places.Places.{Places};
+ghost use Rattle.ddf_linux.specs.Kinds.{IsSeenAs, kind_of_sectors, turn};
+ghost use Rattle.ddf_linux.specs.Places.{names, new_places, signature_of};
 ghost use Rattle.ddf_linux.specs.TurnedBays.{disks_of, inner_of, kind_of};
 
 use ddf_bay::Bay;
@@ -41,6 +44,15 @@ pub fn a_founded_disk_is_sealed_for_linux<B: Bay + Drop>()
         → IsOnNewDisk layout (size_of (B.disks (inner_of bay)) slot) copy.header
         → AreBoth (size_of (B.disks (inner_of bay)) slot) (image slot) (anchor_header copy) copy
         → IsDiskForLinux layout (size_of (B.disks (inner_of bay)) slot) (below (kind_of bay slot) (image slot)) }
+{}
+
+/// An anchor that names other places than those by which its slot is turned is left as it is. Where it is sealed as the standard says, a bay that
+/// is made anew sees the whole slot as it is. So a disk whose copies are moved is none of Linux's any more.
+pub fn an_anchor_of_other_places_is_left<B: Bay + Drop>()
+    ensures left { (bay : Turned B) (slot : ℕ) (places : Places) (anchor : List ℕ) → kind_of bay slot ≡ SlotKind.Turned places
+        → signature_of anchor ≡ header_signature → names places anchor ≡ false → turn (kind_of bay slot) places.anchor anchor ≡ anchor }
+    ensures anew { (size : ℕ) (sector : ℕ → List ℕ) → IsWhole (sector (size - 1)) → IsSealed header_signature (sector (size - 1))
+        → kind_of_sectors size sector ≡ SlotKind.Plain }
 {}
 
 /// What a stop leaves of a founding, a bay that is made anew sees blank, or with its copy in both places and turned at the places of a new disk, but

@@ -15,7 +15,7 @@ mod zeros;
 pub use crcs::{linux_crc32, turn_record};
 pub use laws::{
     a_blank_slot_is_seen_as_a_new_disk, a_founded_disk_is_sealed_for_linux,
-    a_founding_cut_short_is_seen_blank_or_whole,
+    a_founding_cut_short_is_seen_blank_or_whole, an_anchor_of_other_places_is_left,
 };
 pub use turned::Turned;
 pub use zeros::constant_of;

@@ -1,12 +1,13 @@
 //! Which sectors of a slot are turned, by its anchor.
 ghost use Rattle.std.specs.Prelude.{◌≡◌, ◌≤◌};
 ghost use Rattle.ddf_update.specs.NewLayouts.{least_sectors};
-ghost use Rattle.ddf_linux.specs.Places.{places_of, new_places, copies_of, constant_at, copies_constant, lie_from, stands_at};
+ghost use Rattle.ddf_linux.specs.Places.{places_of, new_places, copies_of, constant_at, copies_constant, lie_from, names, stands_at};
 
 use crate::layout::Layout;
 use crate::records::Records;
 use crate::zeros::SectorZeros;
-use ddf_bytes::Sector;
+use ddf_bytes::{Sector, be32, be64};
+use ddf_header::layout::{PRIMARY_LBA_AT, SECONDARY_LBA_AT};
 use ddf_header::{HEADER_SIGNATURE, HeaderKind, decode};
 use ddf_update::{NewLayout, new_geometry};
 
@@ -26,6 +27,10 @@ pub(crate) struct Copies {
 pub(crate) struct Places {
     /// The LBA of the anchor.
     pub anchor: u64,
+    /// The LBA of the primary header that the anchor names, be it sound or not.
+    pub primary: u64,
+    /// The LBA of the secondary header that it names.
+    pub secondary: u64,
     /// By what the two CRCs of the anchor differ.
     pub constant: u32,
     /// The copies, if the anchor is a sound header.
@@ -60,6 +65,8 @@ impl Places {
     {
         Places {
             anchor: last,
+            primary: be64(anchor, PRIMARY_LBA_AT),
+            secondary: be64(anchor, SECONDARY_LBA_AT),
             constant: zeros.constant(1),
             copies: copies_of(zeros, anchor),
         }
@@ -70,12 +77,16 @@ impl Places {
         requires { least_sectors layout ≤ size }
         ensures { result ≡ new_places layout size }
     {
+        let primary = size - layout.primary_back();
+        let secondary = size - layout.secondary_back();
         Places {
             anchor: size - 1,
+            primary,
+            secondary,
             constant: zeros.constant(1),
             copies: Some(Copies {
-                primary: size - layout.primary_back(),
-                secondary: size - layout.secondary_back(),
+                primary,
+                secondary,
                 layout: Layout::new(zeros, &new_geometry(layout, size)),
             }),
         }
@@ -91,13 +102,27 @@ impl Places {
                 .is_none_or(|copies| copies.primary >= lba && copies.secondary >= lba)
     }
 
-    /// What is added to the CRC of a sector that begins with a signature, if it is one of those that are turned.
-    #[tactic(auto, unfolding(crate::specs::Places::constant_at))]
-    pub fn constant_at(&self, lba: u64, signature: u32) -> Option<u32>
-        ensures { result ≡ constant_at self.now lba signature }
+    /// Whether an anchor names the two headers where they are.
+    #[tactic(auto, unfolding(crate::specs::Places::names))]
+    fn names(&self, anchor: &Sector) -> bool
+        ensures { result ≡ names self.now anchor.now }
     {
+        be64(anchor, PRIMARY_LBA_AT) == self.primary
+            && be64(anchor, SECONDARY_LBA_AT) == self.secondary
+    }
+
+    /// What is added to the CRC of a sector, if it is one of those that are turned. An anchor that names other places is that of a
+    /// disk whose copies were moved.
+    #[tactic(auto, unfolding(crate::specs::Places::constant_at))]
+    pub fn constant_at(&self, lba: u64, sector: &Sector) -> Option<u32>
+        ensures { result ≡ constant_at self.now lba sector.now }
+    {
+        let signature = be32(sector, 0);
         if signature == HEADER_SIGNATURE && lba == self.anchor {
-            return Some(self.constant);
+            if self.names(sector) {
+                return Some(self.constant);
+            }
+            return None;
         }
         match &self.copies {
             Some(copies) => copies.constant_at(lba, signature),
