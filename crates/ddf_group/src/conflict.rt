@@ -6,9 +6,10 @@ ghost use Rattle.ddf_group.specs.Conflicts.{concerned, differ_at, difference_of,
 
 use crate::pairs::{Contrast, first_pair};
 use crate::slots::Slots;
+use crate::views::views_of;
 use crate::{Assembly, Differ};
 use ddf_bytes::{Guid, NoMemory};
-use ddf_view::{Difference, View, first_difference};
+use ddf_view::{Difference, View, are_alike, first_difference};
 use std::alloc::Global;
 
 /// The sequence number of the group's leaders.
@@ -148,9 +149,18 @@ impl Contrast for NewestDiffer<'_> {
     }
 }
 
-/// The first two of these leaders that differ.
-pub(crate) fn differing(slots: &Slots, group: &Guid, leading: &[usize]) -> Option<Assembly>
-    ensures { result ≡ first_pair (differ_at slots.now group.now) leading.now }
+/// The first two of these leaders that differ. Where they are alike none do, and no pair is looked at.
+pub(crate) fn differing(
+    alloc: Global,
+    slots: &Slots,
+    group: &Guid,
+    leading: &[usize],
+) -> Result<Option<Assembly>, NoMemory>
+    ensures { IfOk result (λ found. found ≡ first_pair (differ_at slots.now group.now) leading.now) }
 {
-    first_pair(&NewestDiffer { slots, group }, leading)
+    let views = views_of(alloc, slots, leading)?;
+    if are_alike(&views) {
+        return Ok(None);
+    }
+    Ok(first_pair(&NewestDiffer { slots, group }, leading))
 }

@@ -10,10 +10,11 @@ use crate::conflict::{differing, sequence_of, twins, two_copies};
 use crate::disks::{absent, lagging};
 use crate::slots::Slots;
 use crate::split::split_in;
+use crate::views::views_of;
 use crate::{Assembled, Assembly, Shown};
 use ddf_bytes::{Guid, NoMemory, Seq};
 use ddf_config::Config;
-use ddf_view::{View, read};
+use ddf_view::read;
 use std::alloc::Global;
 
 /// What contradicts the group, where something does.
@@ -33,35 +34,10 @@ fn contradiction(
     if let Some(found) = twins(alloc, slots, group)? {
         return Ok(Some(found));
     }
-    if let Some(found) = differing(slots, group, leading) {
+    if let Some(found) = differing(alloc, slots, group, leading)? {
         return Ok(Some(found));
     }
     Ok(split_in(slots, group, leading))
-}
-
-/// The copy that stands for a slot.
-fn view_of<'b>(slots: &Slots<'_, 'b>, slot: usize) -> Option<View<'b>>
-    ensures { result ≡ view_in (slot_at slots.now slot) }
-{
-    match slots.view(slot) {
-        Some(view) => Some(view.again()),
-        None => None,
-    }
-}
-
-/// The copies that stand for these slots.
-fn views_of<'b>(
-    alloc: Global,
-    slots: &Slots<'_, 'b>,
-    leading: &[usize],
-) -> Result<Vec<View<'b>>, NoMemory>
-    ensures { IfOk result (λ views. views.items ≡ filter_map (λ slot. view_in (slot_at slots.now slot)) leading.now) }
-{
-    let views = leading
-        .iter()
-        .filter_map(|slot| view_of(slots, *slot))
-        .collect(alloc)?;
-    Ok(views)
 }
 
 /// The configuration of a group, read from its leaders.

@@ -11,6 +11,7 @@ mod shown;
 mod slots;
 mod split;
 mod taking;
+mod views;
 
 pub use answer::{Assembled, Assembly, Differ};
 pub use group::assembled;

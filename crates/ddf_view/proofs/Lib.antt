@@ -10,4 +10,6 @@ pub mod Zips
 pub mod Rebuilt
 pub mod Spares
 pub mod Rows
+pub mod AlikeCopies
+pub mod Guids
 pub mod Views

@@ -19,7 +19,7 @@ use Rattle.ddf_view.proofs.Finds.{when_false}
 use Rattle.ddf_view.proofs.Tests.{and_five, same_bytes}
 
 -- where none passes none is left
-none_left : {X : Type 0} (p : X → Bool) (xs : List X) → ((x : X) → p x ≡ false) → filter p xs ≡ []
+pub none_left : {X : Type 0} (p : X → Bool) (xs : List X) → ((x : X) → p x ≡ false) → filter p xs ≡ []
 none_left p [] h = refl
 none_left p (x ∷ xs) h = when_false (p x) (x ∷ filter p xs) (filter p xs) (h x) ∙ none_left p xs h
 

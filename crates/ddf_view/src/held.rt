@@ -1,5 +1,6 @@
 //! The records that count, each with its note.
-ghost use Rattle.std.specs.Prelude.{◌≡◌, Option};
+ghost use Rattle.std.specs.Prelude.{◌≡◌, ◌==◌, ◌&&◌, Option, slice_index};
+ghost use Rattle.std.specs.Str.{bytes_eq};
 ghost use Rattle.std.specs.Option.{option_copied, option_and_then};
 ghost use Rattle.ddf_view.specs.View.{element_of, held_at, held_from, key_of_slot, note_at, find_held, find_note};
 
@@ -59,6 +60,23 @@ fn note_at<'a>(notes: Option<&'a Notes>, place: usize) -> Option<&'a SlotNote>
     }
 }
 
+/// Whether two GUIDs have the same bytes at the end of their number and of their chance. In those that are made here, and in Linux's, these
+/// tell most of them apart, where the first ones are those of all.
+fn may_be(one: &Guid, other: &Guid) -> bool
+    ensures { result ≡ (slice_index one.now 15 == slice_index other.now 15 && slice_index one.now 23 == slice_index other.now 23) }
+{
+    let first = one.bytes();
+    let second = other.bytes();
+    first[15] == second[15] && first[23] == second[23]
+}
+
+/// Whether two GUIDs are the same. Most that aren't are told by two of their bytes.
+fn is_guid(one: &Guid, other: &Guid) -> bool
+    ensures { result ≡ bytes_eq one.now other.now }
+{
+    may_be(one, other) && *one == *other
+}
+
 /// The record of a slot, where it counts and is that of this element of an array.
 fn held_at<'a>(
     notes: Option<&'a Notes>,
@@ -70,7 +88,7 @@ fn held_at<'a>(
     ensures { result ≡ held_at (option_copied notes.entry) array.now index place slot.now }
 {
     let element = element_of(slot)?;
-    if element.array == *array && usize::from(element.index) == index {
+    if is_guid(&element.array, array) && usize::from(element.index) == index {
         Some(HeldRecord {
             element,
             note: note_at(notes, place),

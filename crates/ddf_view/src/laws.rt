@@ -10,6 +10,7 @@ ghost use Rattle.ddf_copy.specs.Written.{CanBeCopy};
 ghost use Rattle.ddf_config.specs.Configuration.{Configuration};
 ghost use Rattle.ddf_view.specs.View.{View, has_bit, view_of};
 ghost use Rattle.ddf_view.specs.Reading.{read, spare_in};
+ghost use Rattle.ddf_view.specs.Alike.{NoneDiffers, are_alike};
 ghost use Rattle.ddf_view.specs.Shows.{shows, shows_fully};
 ghost use Rattle.ddf_view.specs.Readable.{AreReadable, DoNamesDiffer, HasNotes};
 ghost use Rattle.ddf_view.specs.Readings.{IsAsRead};
@@ -18,6 +19,11 @@ ghost use Rattle.ddf_view.specs.Readings.{IsAsRead};
 pub fn level_copies_have_one_view()
     ensures { (one other : DiskCopy) → IsAsRead one → IsAsRead other
         → one.header.geometry ≡ other.header.geometry → IsSame one other → view_of one ≡ view_of other }
+{}
+
+/// Of copies that are alike none differs from another one.
+pub fn alike_copies_agree()
+    ensures { (views : List View) → are_alike views ≡ true → NoneDiffers views }
 {}
 
 /// No two disks that a copy lists have one reference, and no two arrays one GUID, where the copy was read or can be written.

@@ -2,6 +2,7 @@
 //! copies have.
 #![tactic(auto)]
 
+mod alike;
 mod arrays;
 mod difference;
 mod differing;
@@ -18,6 +19,7 @@ mod spare_reading;
 mod together;
 mod view;
 
+pub use alike::are_alike;
 pub use arrays::array_of;
 pub use difference::Difference;
 pub use differing::first_difference;
@@ -25,8 +27,8 @@ pub use disks::find_disk;
 pub use flags::{is_global, is_rebuilding};
 pub use held::{HeldRecord, element_of};
 pub use laws::{
-    a_disk_that_is_being_filled_is_no_spare, level_copies_have_one_view, names_differ,
-    views_give_what_they_show,
+    a_disk_that_is_being_filled_is_no_spare, alike_copies_agree, level_copies_have_one_view,
+    names_differ, views_give_what_they_show,
 };
 pub use reading::read;
 pub use same::same_record;
