@@ -1,11 +1,14 @@
 -- The extents of a view don't meet: each meets only itself, of all extents of the configuration.
-use Rattle.std.proofs.Common.{◌≡◌, ◌≢◌, ◌∙◌, ℕ, zero, suc, ◌+◌, ◌<◌, ◌≤◌, Bool, true, false, List, [], ◌∷◌, ◌++◌, Option, Some, None, Ok, refl, sym, ap, subst, arith, map, filter_map, length, slice_get, find, ◌&&◌}
+use Rattle.std.proofs.Common.{◌≡◌, ◌≢◌, ◌∙◌, ℕ, zero, suc, ◌+◌, ◌<◌, ◌≤◌, Bool, true, false, List, [], ◌∷◌, Option, Some, None, Ok, refl, sym, ap, subst, arith, map, filter_map, length, slice_get, find, ◌&&◌}
 use Rattle.std.specs.Prelude.{◌==◌, count_by, is_some, max, min, nat_eq, nat_le, option_map, if◌then◌else◌}
 use Rattle.std.specs.Map.{lookup}
 use Rattle.std.specs.List.{cons_option, flat_map, position_or_len}
-use Rattle.std.proofs.lemmas.Bool.{eqb-true, eq-eqb, leb-true, lt-ltb}
+use Rattle.std.proofs.lemmas.Bool.{eqb-true, eq-eqb, leb-true, lt-ltb, and_from}
 use Rattle.std.proofs.lemmas.List.Folds.{find_at}
 use Rattle.std.proofs.lemmas.Option.{slice_get_within}
+use Rattle.ddf_lemmas.proofs.Lists.{first_get, found_passes, in_map, mapped_at, slice_get-append_right}
+use Rattle.ddf_lemmas.proofs.Options.{some_is}
+use Rattle.ddf_lemmas.proofs.Tests.{and_second}
 use Rattle.ddf_primary.specs.Placement.{Placement}
 use Rattle.ddf_config.specs.declared.array.Array.{Array}
 use Rattle.ddf_config.specs.declared.extent.Extent.{Extent}
@@ -23,23 +26,13 @@ use Rattle.ddf_array.specs.declared.place.Place.{Place}
 use Rattle.ddf_array.specs.Apart.{AreSeats, IsApart}
 use Rattle.ddf_array.specs.Viewing.{known_part, place_of, seat_slot, view_of}
 use Rattle.ddf_array.specs.Volume.{Volume}
-use Rattle.ddf_array.proofs.Bools.{and_second}
-use Rattle.ddf_array.proofs.Consistent.{in_map, to_flat}
+use Rattle.ddf_array.proofs.Consistent.{to_flat}
 use Rattle.ddf_array.proofs.Enough.{all_pass, only_one}
-use Rattle.ddf_array.proofs.Losses.{at_front}
-use Rattle.ddf_array.proofs.RowParity.{found_passes}
 use Rattle.ddf_array.proofs.Shapes.{blocks_are}
 use Rattle.ddf_array.proofs.Usable.{lie_well}
 use Rattle.ddf_array.proofs.Viewed.{from_view}
 
-some_is : {X : Type 0} {a b : X} → Some a ≡ Some b → a ≡ b
-some_is e = cc
-
 -- ---- items of lists that are made of others, and where they stand
-
-at_back : {X : Type 0} (xs ys : List X) (k : ℕ) → slice_get (xs ++ ys) (length xs + k) ≡ slice_get ys k
-at_back [] ys k = let same : 0 + k ≡ k = omega arith in ap (slice_get ys) same
-at_back (x ∷ xs) ys k = let same : suc (length xs) + k ≡ suc (length xs + k) = omega arith in ap (slice_get (x ∷ (xs ++ ys))) same ∙ at_back xs ys k
 
 -- two items stand at two places
 record Two {Y : Type 0} (ys : List Y) (y y' : Y) : Type 0 where
@@ -58,8 +51,8 @@ flat_two f (z ∷ xs) zero j zero j' x x' y y' at inner at' inner' differ =
     record {
       one = j;
       other = j';
-      is_one = at_front (f z) (flat_map f xs) j y (ap (λ w. slice_get (f w) j) same ∙ inner);
-      is_other = at_front (f z) (flat_map f xs) j' y' (ap (λ w. slice_get (f w) j') same' ∙ inner');
+      is_one = first_get (f z) (flat_map f xs) j y (ap (λ w. slice_get (f w) j) same ∙ inner);
+      is_other = first_get (f z) (flat_map f xs) j' y' (ap (λ w. slice_get (f w) j') same' ∙ inner');
       differ = differ refl;
     }
 flat_two f (z ∷ xs) zero j (suc i') j' x x' y y' at inner at' inner' differ =
@@ -69,8 +62,8 @@ flat_two f (z ∷ xs) zero j (suc i') j' x x' y y' at inner at' inner' differ =
     record {
       one = j;
       other = length (f z) + rest.0;
-      is_one = at_front (f z) (flat_map f xs) j y here;
-      is_other = at_back (f z) (flat_map f xs) rest.0 ∙ rest.1;
+      is_one = first_get (f z) (flat_map f xs) j y here;
+      is_other = slice_get-append_right (f z) (flat_map f xs) rest.0 ∙ rest.1;
       differ = λ e. omega (arith, e, slice_get_within (f z) j y here);
     }
 flat_two f (z ∷ xs) (suc i) j zero j' x x' y y' at inner at' inner' differ =
@@ -80,8 +73,8 @@ flat_two f (z ∷ xs) (suc i) j zero j' x x' y y' at inner at' inner' differ =
     record {
       one = length (f z) + rest.0;
       other = j';
-      is_one = at_back (f z) (flat_map f xs) rest.0 ∙ rest.1;
-      is_other = at_front (f z) (flat_map f xs) j' y' here;
+      is_one = slice_get-append_right (f z) (flat_map f xs) rest.0 ∙ rest.1;
+      is_other = first_get (f z) (flat_map f xs) j' y' here;
       differ = λ e. omega (arith, e, slice_get_within (f z) j' y' here);
     }
 flat_two f (z ∷ xs) (suc i) j (suc i') j' x x' y y' at inner at' inner' differ =
@@ -89,8 +82,8 @@ flat_two f (z ∷ xs) (suc i) j (suc i') j' x x' y y' at inner at' inner' differ
     record {
       one = length (f z) + rest.one;
       other = length (f z) + rest.other;
-      is_one = at_back (f z) (flat_map f xs) rest.one ∙ rest.is_one;
-      is_other = at_back (f z) (flat_map f xs) rest.other ∙ rest.is_other;
+      is_one = slice_get-append_right (f z) (flat_map f xs) rest.one ∙ rest.is_one;
+      is_other = slice_get-append_right (f z) (flat_map f xs) rest.other ∙ rest.is_other;
       differ = λ e. rest.differ (omega (arith, e));
     }
 
@@ -143,11 +136,6 @@ kept_two : {X Y : Type 0} (f : X → Option Y) (xs : List X) (k k' : ℕ) (y y' 
 kept_two f [] k k' y y' e e' = absurd (cc)
 kept_two f (x ∷ xs) k k' y y' e e' = two_by f x xs k k' y y' (f x) refl e e' (λ j j' is is'. kept_two f xs j j' y y' is is')
 
-at_map : {X Y : Type 0} (f : X → Y) (xs : List X) (k : ℕ) (x : X) → slice_get xs k ≡ Some x → slice_get (map f xs) k ≡ Some (f x)
-at_map f [] k x e = absurd (cc)
-at_map f (y ∷ xs) zero x e = let same : y ≡ x = cc in ap (λ z. Some (f z)) same
-at_map f (y ∷ xs) (suc k) x e = at_map f xs k x e
-
 -- ---- the seat of a slot
 
 record SeatAt (seats : List Seat) (reference slot : ℕ) : Type 0 where
@@ -198,7 +186,7 @@ extent_by seats elements element part position place (Some shape) made e at =
     let from = in_map (place_of seats element.blocks) element.positions position place (ap (λ (p : Part). slice_get p.places position) same ∙ at) in
     record {
       one = extent element.blocks from.0;
-      is_extent = at_map (extent element.blocks) element.positions position from.0 from.1;
+      is_extent = mapped_at (extent element.blocks) element.positions position from.0 from.1;
       is_start = sym (ap (λ (p : Place). p.start) from.2);
       is_blocks = sym (ap (λ (p : Part). p.shape.blocks) same) ∙ blocks_are elements element shape made;
       is_slot = sym (ap (λ (p : Place). p.slot) from.2);
@@ -227,13 +215,9 @@ meets_by members all one None is some well = absurd (cc)
 meets_by members all one (Some member) is some well =
     leb-true (count_by (meets_extent one) all) 1 (and_second (nat_le (one.start + one.blocks) member.size) (nat_le (count_by (meets_extent one) all) 1) well)
 
-and_both : (a b : Bool) → a ≡ true → b ≡ true → (a && b) ≡ true
-and_both true b e f = f
-and_both false b e f = e
-
 meets_at : (one other : Extent) (lba : ℕ) → one.reference ≡ other.reference → one.start ≤ lba → lba < one.start + one.blocks → other.start ≤ lba → lba < other.start + other.blocks → meets_extent one other ≡ true
 meets_at one other lba same from below from' below' =
-    and_both (one.reference == other.reference) (meets one.start one.blocks (other.start, other.blocks)) (eq-eqb one.reference other.reference same)
+    and_from (one.reference == other.reference) (meets one.start one.blocks (other.start, other.blocks)) (eq-eqb one.reference other.reference same)
     (lt-ltb (max one.start other.start) (min (one.start + one.blocks) (other.start + other.blocks)) (omega (arith, from, below, from', below')))
 
 -- ---- a view

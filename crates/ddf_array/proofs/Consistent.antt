@@ -1,10 +1,10 @@
 -- An array whose cells and rows agree is redundant, and the other way round.
-use Rattle.std.proofs.Common.{◌≡◌, ◌∙◌, ◌⊎◌, inl, inr, ⊎_elim, ℕ, zero, suc, ◌<◌, ◌≤◌, Bool, true, false, List, [], ◌∷◌, ◌++◌, Option, Some, None, refl, sym, ap, arith, map, filter_map, length, slice_get, ◌&&◌}
+use Rattle.std.proofs.Common.{◌≡◌, ◌∙◌, ⊎_elim, ℕ, zero, suc, ◌<◌, ◌≤◌, Bool, true, false, List, [], ◌∷◌, ◌++◌, Option, Some, None, refl, ap, arith, map, filter_map, length, slice_get}
 use Rattle.std.specs.Prelude.{nat_le, option_map, option_and_then, if◌then◌else◌}
-use Rattle.std.specs.List.{range_with_len, flat_map, cons_option}
-use Rattle.std.proofs.lemmas.Bool.{le-leb}
+use Rattle.std.specs.List.{flat_map, cons_option}
 use Rattle.std.proofs.lemmas.Option.{slice_get_within}
 use Rattle.std.proofs.lemmas.List.{length-map}
+use Rattle.ddf_lemmas.proofs.Lists.{few_places, first_get, get_filter_map, in_either, in_map, in_second, mapped_at, same_some_bytes}
 use Rattle.ddf_bay.specs.Sectors.{Image}
 use Rattle.ddf_primary.specs.Placement.{Placement}
 use Rattle.ddf_primary.specs.Levels.{IsShape}
@@ -26,16 +26,9 @@ use Rattle.ddf_array.specs.Values.{bytes_at, sum_at, given, value}
 use Rattle.ddf_array.specs.Within.{is_mirrored}
 use Rattle.ddf_array.specs.Redundant.{IsRedundant, IsConsistent}
 use Rattle.ddf_array.specs.Sound.{AreSectors}
-use Rattle.ddf_array.proofs.Losses.{at_front, mapped_at}
 use Rattle.ddf_array.proofs.RowSums.{cell_from_row}
 
 -- ---- items of lists that are made of others
-
-in_append : {X : Type 0} (xs ys : List X) (k : ℕ) (x : X) → slice_get (xs ++ ys) k ≡ Some x
-    → ((j : ℕ) × (slice_get xs j ≡ Some x)) ⊎ ((j : ℕ) × (slice_get ys j ≡ Some x))
-in_append [] ys k x e = inr (k, e)
-in_append (z ∷ xs) ys zero x e = inl (0, e)
-in_append (z ∷ xs) ys (suc k) x e = ⊎_elim (λ front. inl (suc front.0, front.1)) (λ back. inr back) (in_append xs ys k x e)
 
 pub record FromFlat {X Y : Type 0} (f : X → List Y) (xs : List X) (y : Y) : Type 0 where
   pub at : ℕ
@@ -44,19 +37,14 @@ pub record FromFlat {X Y : Type 0} (f : X → List Y) (xs : List X) (y : Y) : Ty
   pub inner : ℕ
   pub is_inner : slice_get (f item) inner ≡ Some y
 
-flat_later : {X Y : Type 0} (f : X → List Y) (x : X) (xs : List X) (y : Y) → FromFlat f xs y → FromFlat f (x ∷ xs) y
+pub flat_later : {X Y : Type 0} (f : X → List Y) (x : X) (xs : List X) (y : Y) → FromFlat f xs y → FromFlat f (x ∷ xs) y
 flat_later f x xs y from = record { at = suc from.at; item = from.item; is_at = from.is_at; inner = from.inner; is_inner = from.is_inner }
 
 pub in_flat : {X Y : Type 0} (f : X → List Y) (xs : List X) (k : ℕ) (y : Y) → slice_get (flat_map f xs) k ≡ Some y → FromFlat f xs y
 in_flat f [] k y e = absurd (cc)
 in_flat f (x ∷ xs) k y e =
     ⊎_elim (λ front. record { at = 0; item = x; is_at = refl; inner = front.0; is_inner = front.1 })
-    (λ back. flat_later f x xs y (in_flat f xs back.0 y back.1)) (in_append (f x) (flat_map f xs) k y e)
-
-pub in_map : {X Y : Type 0} (f : X → Y) (xs : List X) (k : ℕ) (y : Y) → slice_get (map f xs) k ≡ Some y → (x : X) × (slice_get xs k ≡ Some x) × (f x ≡ y)
-in_map f [] k y e = absurd (cc)
-in_map f (x ∷ xs) zero y e = (x, refl, cc)
-in_map f (x ∷ xs) (suc k) y e = in_map f xs k y e
+    (λ back. flat_later f x xs y (in_flat f xs back.0 y back.1)) (in_either (f x) (flat_map f xs) k y e)
 
 pub record FromFilter {X Y : Type 0} (f : X → Option Y) (xs : List X) (y : Y) : Type 0 where
   pub at : ℕ
@@ -64,10 +52,10 @@ pub record FromFilter {X Y : Type 0} (f : X → Option Y) (xs : List X) (y : Y) 
   pub is_at : slice_get xs at ≡ Some item
   pub gives : f item ≡ Some y
 
-filter_later : {X Y : Type 0} (f : X → Option Y) (x : X) (xs : List X) (y : Y) → FromFilter f xs y → FromFilter f (x ∷ xs) y
+pub filter_later : {X Y : Type 0} (f : X → Option Y) (x : X) (xs : List X) (y : Y) → FromFilter f xs y → FromFilter f (x ∷ xs) y
 filter_later f x xs y from = record { at = suc from.at; item = from.item; is_at = from.is_at; gives = from.gives }
 
-in_filter_by : {X Y : Type 0} (f : X → Option Y) (x : X) (xs : List X) (k : ℕ) (y : Y) (o : Option Y) → f x ≡ o → slice_get (cons_option o (filter_map f xs)) k ≡ Some y
+pub in_filter_by : {X Y : Type 0} (f : X → Option Y) (x : X) (xs : List X) (k : ℕ) (y : Y) (o : Option Y) → f x ≡ o → slice_get (cons_option o (filter_map f xs)) k ≡ Some y
     → ((k : ℕ) → slice_get (filter_map f xs) k ≡ Some y → FromFilter f xs y) → FromFilter f (x ∷ xs) y
 in_filter_by f x xs k y None is e rest = filter_later f x xs y (rest k e)
 in_filter_by f x xs zero y (Some z) is e rest = let same : z ≡ y = cc in record { at = 0; item = x; is_at = refl; gives = is ∙ ap Some same }
@@ -77,24 +65,11 @@ pub in_filter : {X Y : Type 0} (f : X → Option Y) (xs : List X) (k : ℕ) (y :
 in_filter f [] k y e = absurd (cc)
 in_filter f (x ∷ xs) k y e = in_filter_by f x xs k y (f x) refl e (λ j is. in_filter f xs j y is)
 
-to_back : {X : Type 0} (xs ys : List X) (k : ℕ) (x : X) → slice_get ys k ≡ Some x → (j : ℕ) × (slice_get (xs ++ ys) j ≡ Some x)
-to_back [] ys k x e = (k, e)
-to_back (z ∷ xs) ys k x e = let rest = to_back xs ys k x e in (suc rest.0, rest.1)
-
 pub to_flat : {X Y : Type 0} (f : X → List Y) (xs : List X) (j i : ℕ) (x : X) (y : Y) → slice_get xs j ≡ Some x → slice_get (f x) i ≡ Some y → (k : ℕ) × (slice_get (flat_map f xs) k ≡ Some y)
 to_flat f [] j i x y at inner = absurd (cc)
 to_flat f (z ∷ xs) zero i x y at inner =
-    let same : z ≡ x = cc in (i, at_front (f z) (flat_map f xs) i y (ap (λ w. slice_get (f w) i) same ∙ inner))
-to_flat f (z ∷ xs) (suc j) i x y at inner = let rest = to_flat f xs j i x y at inner in to_back (f z) (flat_map f xs) rest.0 y rest.1
-
-to_filter_by : {Y : Type 0} (o : Option Y) (ys : List Y) (k : ℕ) (y : Y) → slice_get ys k ≡ Some y → (j : ℕ) × (slice_get (cons_option o ys) j ≡ Some y)
-to_filter_by None ys k y e = (k, e)
-to_filter_by (Some z) ys k y e = (suc k, e)
-
-pub to_filter : {X Y : Type 0} (f : X → Option Y) (xs : List X) (j : ℕ) (x : X) (y : Y) → slice_get xs j ≡ Some x → f x ≡ Some y → (k : ℕ) × (slice_get (filter_map f xs) k ≡ Some y)
-to_filter f [] j x y at gives = absurd (cc)
-to_filter f (z ∷ xs) zero x y at gives = let same : z ≡ x = cc in (0, ap (λ o. slice_get (cons_option o (filter_map f xs)) 0) (ap f same ∙ gives))
-to_filter f (z ∷ xs) (suc j) x y at gives = let rest = to_filter f xs j x y at gives in to_filter_by (f z) (filter_map f xs) rest.0 y rest.1
+    let same : z ≡ x = cc in (i, first_get (f z) (flat_map f xs) i y (ap (λ w. slice_get (f w) i) same ∙ inner))
+to_flat f (z ∷ xs) (suc j) i x y at inner = let rest = to_flat f xs j i x y at inner in in_second (f z) (flat_map f xs) rest.0 y rest.1
 
 -- a list of one item at most
 lone : {X : Type 0} (xs : List X) (k : ℕ) (x : X) → length xs ≤ 1 → slice_get xs k ≡ Some x → xs ≡ x ∷ []
@@ -110,24 +85,14 @@ cell_depth shape known block k cell at =
     let facts = cell_facts shape known in
     facts.sector_within cell.0 cell.1 block (on_holds shape known cell.0 cell.1 block (copy_is shape block k cell at).1)
 
-few_by : (count element : ℕ) (every two : Bool) → nat_le 2 count ≡ two → (every && two) ≡ false → length (if every then range_with_len 0 count else element ∷ []) ≤ 1
-few_by count element false two is alone = omega arith
-few_by zero element true two is alone = omega arith
-few_by (suc zero) element true two is alone = omega arith
-few_by (suc (suc count)) element true two is alone =
-    let more : nat_le 2 (suc (suc count)) ≡ true = le-leb 2 (suc (suc count)) (omega arith) in absurd (true_not_false (sym more ∙ is ∙ alone))
-  where
-    true_not_false : true ≡ false → ⊥
-    true_not_false e = cc
-
-few_spots : (v : Volume) (block : ℕ) → is_mirrored v ≡ false → length (block_spots v block) ≤ 1
+pub few_spots : (v : Volume) (block : ℕ) → is_mirrored v ≡ false → length (block_spots v block) ≤ 1
 few_spots v block alone = by_spot (slice_get (spots v.tiers) block)
   where
     by_spot : (found : Option Spot) → length {A = Spot} (elim found [ None ↦ [] | Some spot ↦ spots_like v.tiers.level (length v.parts) spot ]) ≤ 1
     by_spot None = omega arith
     by_spot (Some spot) =
         let elements = elements_like v.tiers.level (length v.parts) spot.element in
-        let few = few_by (length v.parts) spot.element (is_in_every v.tiers.level) (nat_le 2 (length v.parts)) refl alone in
+        let few = few_places (length v.parts) spot.element (is_in_every v.tiers.level) (nat_le 2 (length v.parts)) refl alone in
         let place : ℕ → Spot = λ element. record { element = element; block = spot.block } in
         let same = length-map elements place in
         omega (arith, few, same)
@@ -160,7 +125,7 @@ module _ (v : Volume) (image : Image) (known : IsVolume v) (are : AreSectors ima
     -- the block's own cell is available
     with_own : (own : Site) → site_at part.places cell.0 cell.1 ≡ Some own → value v image block ≡ Some (sum_at image sites)
     with_own own own_at =
-        let inner = to_filter (λ (c : ℕ × ℕ). site_at part.places c.0 c.1) (element_cells part.shape spot.block) k cell own cell_at own_at in
+        let inner = get_filter_map (λ (c : ℕ × ℕ). site_at part.places c.0 c.1) (element_cells part.shape spot.block) k cell own cell_at own_at in
         let among = to_flat (at_spot v.parts element_copies) (block_spots v block) j inner.0 spot own spot_at (ap (λ (l : List Site). slice_get l inner.0) (at_part v.parts element_copies spot part part_at) ∙ inner.1) in
         let depth = cell_depth part.shape (known.are_parts spot.element part part_at).shape_is spot.block k cell cell_at in
         copy_value among.0 own among.1
@@ -215,7 +180,7 @@ module _ (v : Volume) (image : Image) (known : IsVolume v) (are : AreSectors ima
       ⊎_elim
       (λ front. let from = in_map copy (copies v block) front.0 source front.1 in copy_value front.0 from.0 from.1 ∙ ap (λ (s : Source). Some (given image s)) from.2)
       (λ back. let from = in_map row (rows v block) back.0 source back.1 in row_value back.0 from.0 from.1 ∙ ap (λ (s : Source). Some (given image s)) from.2)
-      (in_append (map copy (copies v block)) (map row (rows v block)) k source at)
+      (in_either (map copy (copies v block)) (map row (rows v block)) k source at)
 
 pub redundant_if : (v : Volume) (image : Image) → IsVolume v → AreSectors image → IsConsistent v image → IsRedundant v image
 redundant_if v image known are is = record {
@@ -225,28 +190,24 @@ redundant_if v image known are is = record {
 
 -- ---- redundant, so consistent
 
-same_bytes : (o : Option (List ℕ)) (one other : List ℕ) → o ≡ Some one → o ≡ Some other → one ≡ other
-same_bytes None one other a b = absurd (cc)
-same_bytes (Some bytes) one other a b = cc
-
 module _ (v : Volume) (image : Image) (is : IsRedundant v image) where
   pub copy_gives : (block k : ℕ) (one : Site) → slice_get (copies v block) k ≡ Some one → value v image block ≡ Some (bytes_at image one)
-  copy_gives block k one at = is.agree block k (copy one) (at_front (map copy (copies v block)) (map row (rows v block)) k (copy one) (mapped_at copy (copies v block) k one at))
+  copy_gives block k one at = is.agree block k (copy one) (first_get (map copy (copies v block)) (map row (rows v block)) k (copy one) (mapped_at copy (copies v block) k one at))
 
   row_gives : (block j k : ℕ) (spot : Spot) (part : Part) (cell : ℕ × ℕ) (sites : List Site) → slice_get (block_spots v block) j ≡ Some spot → slice_get v.parts spot.element ≡ Some part
       → keeps_parity part.shape.layout ≡ true → slice_get (element_cells part.shape spot.block) k ≡ Some cell → row_without part.places cell.0 cell.1 ≡ Some sites
       → value v image block ≡ Some (sum_at image sites)
   row_gives block j k spot part cell sites spot_at part_at parity cell_at row_at =
-      let inner = to_filter (λ (c : ℕ × ℕ). row_without part.places c.0 c.1) (element_cells part.shape spot.block) k cell sites cell_at row_at in
+      let inner = get_filter_map (λ (c : ℕ × ℕ). row_without part.places c.0 c.1) (element_cells part.shape spot.block) k cell sites cell_at row_at in
       let own = ap (λ b. slice_get (if b then filter_map (λ (c : ℕ × ℕ). row_without part.places c.0 c.1) (element_cells part.shape spot.block) else []) inner.0) parity ∙ inner.1 in
       let among = to_flat (at_spot v.parts element_rows) (block_spots v block) j inner.0 spot sites spot_at (ap (λ (l : List (List Site)). slice_get l inner.0) (at_part v.parts element_rows spot part part_at) ∙ own) in
-      let there = to_back (map copy (copies v block)) (map row (rows v block)) among.0 (row sites) (mapped_at row (rows v block) among.0 sites among.1) in
+      let there = in_second (map copy (copies v block)) (map row (rows v block)) among.0 (row sites) (mapped_at row (rows v block) among.0 sites among.1) in
       is.agree block there.0 (row sites) there.1
 
 pub consistent_if : (v : Volume) (image : Image) → IsRedundant v image → IsConsistent v image
 consistent_if v image is = record {
   equal_copies = λ block j k one other one_at other_at.
-      same_bytes (value v image block) (bytes_at image one) (bytes_at image other) (copy_gives v image is block j one one_at) (copy_gives v image is block k other other_at);
+      same_some_bytes (value v image block) (bytes_at image one) (bytes_at image other) (copy_gives v image is block j one one_at) (copy_gives v image is block k other other_at);
   sum_to_zero = is.sum_to_zero;
   mirrored_rows = λ mirrored block j k spot part cell sites spot_at part_at parity cell_at own_at row_at. row_gives v image is block j k spot part cell sites spot_at part_at parity cell_at row_at;
 }

@@ -1,5 +1,5 @@
 -- The sources of a block in one element.
-use Rattle.std.proofs.Common.{◌≡◌, ◌∙◌, ℕ, List, [], ◌∷◌, ◌++◌, true, false, Option, Some, None, refl, sym, ap, slice_get, length}
+use Rattle.std.proofs.Common.{◌≡◌, ◌∙◌, ℕ, List, [], ◌∷◌, ◌++◌, true, false, Option, Some, None, refl, sym, ap, slice_get, length, append-nil}
 use Rattle.std.specs.Prelude.{map, filter_map, option_to_list}
 use Rattle.std.specs.List.{range_with_len, flat_map, cons_option}
 use Rattle.ddf_primary.specs.Levels.{IsShape}
@@ -13,7 +13,6 @@ use Rattle.ddf_array.specs.Places.{site_at}
 use Rattle.ddf_array.specs.Levels.{is_on_every, keeps_copies}
 use Rattle.ddf_array.specs.Cells.{element_cells}
 use Rattle.ddf_array.specs.Sources.{Source, copy, element_copies}
-use Rattle.ddf_array.proofs.Ranges.{append-nil}
 
 -- a position's sector as a source, where it is available
 abbrev pub copies_on : List Place → (sector position : ℕ) → List Source

@@ -1,9 +1,10 @@
 -- The elements of a view and the spots of its blocks.
-use Rattle.std.proofs.Common.{◌≡◌, ◌∙◌, ℕ, ◌*◌, ◌<◌, ◌≤◌, List, [], ◌∷◌, ◌++◌, true, false, Option, Some, None, refl, sym, ap, subst, arith, slice_get, length, zero, suc}
+use Rattle.std.proofs.Common.{◌≡◌, ◌∙◌, ℕ, ◌*◌, ◌<◌, ◌≤◌, List, [], ◌∷◌, ◌++◌, true, false, Option, Some, None, refl, sym, ap, subst, arith, slice_get, length, zero, suc, append-nil}
 use Rattle.std.specs.Prelude.{map, slice_index_or, if◌then◌else◌}
 use Rattle.std.specs.List.{range_with_len, flat_map}
 use Rattle.std.proofs.lemmas.Option.{slice_get_within}
 use Rattle.std.proofs.lemmas.List.{map-append}
+use Rattle.std.proofs.lemmas.List.Folds.{flat_map-map}
 use Rattle.ddf_primary.specs.Cells.{cells, unit_of, rows_of}
 use Rattle.ddf_primary.proofs.ShapeFacts.{rows_fit}
 use Rattle.ddf_secondary.specs.declared.element.ElementSize.{ElementSize}
@@ -17,7 +18,6 @@ use Rattle.ddf_array.specs.declared.part.Part.{Part}
 use Rattle.ddf_array.specs.Volume.{Volume, IsVolume, size_of}
 use Rattle.ddf_array.specs.Cells.{spots_like, elements_like, block_spots, is_in_every}
 use Rattle.ddf_array.specs.Sources.{at_spot, at_element}
-use Rattle.ddf_array.proofs.Ranges.{append-nil}
 
 -- ---- a block of an element lies below its capacity
 
@@ -74,10 +74,6 @@ map-flat : {A B X : Type 0} (g : A → B) (f : X → List A) (xs : List X) → m
 map-flat g f [] = refl
 map-flat g f (x ∷ xs) = map-append g (f x) (flat_map f xs) ∙ ap (λ l. map g (f x) ++ l) (map-flat g f xs)
 
-flat-map-map : {A X Y : Type 0} (f : Y → List A) (g : X → Y) (xs : List X) → flat_map f (map g xs) ≡ flat_map (λ x. f (g x)) xs
-flat-map-map f g [] = refl
-flat-map-map f g (x ∷ xs) = ap (λ l. f (g x) ++ l) (flat-map-map f g xs)
-
 elements_every : (level : SecondaryLevel) (count element : ℕ) → is_in_every level ≡ true → elements_like level count element ≡ range_with_len 0 count
 elements_every level count element is = ap (λ b. if b then range_with_len 0 count else element ∷ []) is
 
@@ -92,7 +88,7 @@ module _ {A B : Type 0} (v : Volume) (g : A → B) (of_element : Part → ℕ �
       → map g (flat_map (at_spot v.parts of_element) (block_spots v block)) ≡ flat_map (λ element. map g (at_element v.parts of_element spot.block element)) elements
   along elements are =
       ap (λ l. map g (flat_map (at_spot v.parts of_element) l)) (spots_are ∙ ap (map (λ element. record { element = element; block = spot.block })) are)
-      ∙ ap (map g) (flat-map-map (at_spot v.parts of_element) (λ element. record { element = element; block = spot.block }) elements)
+      ∙ ap (map g) (flat_map-map (at_spot v.parts of_element) (λ element. record { element = element; block = spot.block }) elements)
       ∙ map-flat g (at_element v.parts of_element spot.block) elements
 
   pub along_every : is_in_every v.tiers.level ≡ true
@@ -114,4 +110,4 @@ module _ {A : Type 0} (v : Volume) (of_element : Part → ℕ → List A) (block
       → flat_map (at_spot v.parts of_element) (block_spots v block) ≡ flat_map (at_element v.parts of_element spot.block) (range_with_len 0 (length v.parts))
   spread_every is =
       ap (λ l. flat_map (at_spot v.parts of_element) l) (spots_are {A = A} {B = A} v (λ x. x) of_element block spot at ∙ ap (map (λ element. record { element = element; block = spot.block })) (elements_every v.tiers.level (length v.parts) spot.element is))
-      ∙ flat-map-map (at_spot v.parts of_element) (λ element. record { element = element; block = spot.block }) (range_with_len 0 (length v.parts))
+      ∙ flat_map-map (at_spot v.parts of_element) (λ element. record { element = element; block = spot.block }) (range_with_len 0 (length v.parts))

@@ -3,7 +3,7 @@ use Rattle.std.proofs.Common.{◌≡◌, ◌≢◌, ◌∙◌, ◌⊎◌, inl, i
 use Rattle.std.specs.Prelude.{option_to_list, filter_map, is_some, count_by, if◌then◌else◌, option_map, option_and_then, ◌==◌}
 use Rattle.std.specs.List.{range_with_len, flat_map, list_any, list_all, cons_option}
 use Rattle.std.proofs.lemmas.Option.{slice_get_within, slice_get_cases, slice_get-get_or}
-use Rattle.std.proofs.lemmas.Bool.{leb-true}
+use Rattle.std.proofs.lemmas.Bool.{leb-true, false_from_ne_true}
 use Rattle.std.proofs.lemmas.List.{length-map}
 use Rattle.std.proofs.lemmas.List.Sums.{sum_by-cons}
 use Rattle.ddf_array.specs.declared.place.Place.{Place}
@@ -25,20 +25,17 @@ use Rattle.ddf_secondary.specs.declared.spot.Spot.{Spot}
 use Rattle.ddf_secondary.specs.Spots.{spots}
 use Rattle.ddf_secondary.proofs.SpotFacts.{spot_facts}
 use Rattle.std.proofs.lemmas.Bool.{cases_lt}
+use Rattle.ddf_lemmas.proofs.Tests.{and_first, and_second, true_not_false}
 use Rattle.ddf_array.specs.Volume.{Volume, IsVolume, IsPart}
 use Rattle.ddf_array.proofs.Elements.{every_below, spot_below, along_every, along_one, at_found, parts_count}
 use Rattle.ddf_array.specs.Cells.{is_in_every, element_cells}
 use Rattle.ddf_config.specs.Within.{has_enough}
 use Rattle.ddf_array.specs.Within.{is_part_within, is_mirrored, is_within}
 use Rattle.ddf_array.proofs.ElementCells.{copies_on, cells_one, copies_on_one, copies_on_every}
-use Rattle.ddf_array.proofs.Bools.{and_first, and_second}
 use Rattle.ddf_array.proofs.Ranges.{flat-around}
 use Rattle.ddf_array.proofs.RowCells.{row_is, row_more}
 
 -- ---- lists
-
-true_not_false : true ≡ false → ⊥
-true_not_false e = cc
 
 -- an item that passes, where one does
 pub record Found {X : Type 0} (p : X → Bool) (xs : List X) : Type 0 where
@@ -87,10 +84,6 @@ less_by : (b : Bool) (n : ℕ) → (if b then 1 else 0) + n ≤ 1 → n ≤ 1
 less_by true n le = omega arith
 less_by false n le = omega arith
 
-flip : (b : Bool) → (b ≡ true → ⊥) → b ≡ false
-flip true never = absurd (never refl)
-flip false never = refl
-
 pub only_one : {X : Type 0} (q : X → Bool) (xs : List X) → count_by q xs ≤ 1 → (i k : ℕ) (x y : X) → slice_get xs i ≡ Some x → slice_get xs k ≡ Some y → q x ≡ true → k ≢ i → q y ≡ false
 only_one q [] le i k x y at_i at_k is other = absurd (cc)
 only_one q (z ∷ zs) le zero zero x y at_i at_k is other = absurd (other refl)
@@ -99,7 +92,7 @@ only_one q (z ∷ zs) le zero (suc k) x y at_i at_k is other =
     none_pass q zs (rest_by (q z) (count_by q zs) (count-cons q z zs 1 le) (subst (λ w. q w ≡ true) same is)) k y at_k
 only_one q (z ∷ zs) le (suc i) zero x y at_i at_k is other =
     let same : z ≡ y = cc in
-    flip (q y) (λ yes. absurd (true_false (sym is ∙ none_pass q zs (rest_by (q z) (count_by q zs) (count-cons q z zs 1 le) (subst (λ w. q w ≡ true) (sym same) yes)) i x at_i)))
+    false_from_ne_true (q y) (λ yes. absurd (true_false (sym is ∙ none_pass q zs (rest_by (q z) (count_by q zs) (count-cons q z zs 1 le) (subst (λ w. q w ≡ true) (sym same) yes)) i x at_i)))
   where
     true_false : true ≡ false → ⊥
     true_false e = cc

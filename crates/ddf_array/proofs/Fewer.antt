@@ -3,6 +3,7 @@ use Rattle.std.proofs.Common.{◌≡◌, ◌∙◌, ◌⊎◌, inl, inr, ⊎_eli
 use Rattle.std.specs.Prelude.{nat_le, option_map, if◌then◌else◌}
 use Rattle.std.specs.Map.{lookup}
 use Rattle.std.specs.List.{cons_option}
+use Rattle.ddf_lemmas.proofs.Options.{same_some}
 use Rattle.ddf_primary.specs.Placement.{Placement}
 use Rattle.ddf_secondary.specs.Arrangement.{Arrangement}
 use Rattle.ddf_config.specs.declared.array.Array.{Array}
@@ -21,10 +22,6 @@ use Rattle.ddf_array.specs.Volume.{Volume}
 use Rattle.ddf_array.specs.Losing.{AreLostPlaces, AreLostParts, IsLoss, AreFewer}
 use Rattle.ddf_array.specs.Viewing.{seat_slot, place_of, known_part, parts_of, view_of}
 use Rattle.ddf_array.proofs.Viewed.{from_view}
-
-pub same_array : (found : Option Array) (one other : Array) → found ≡ Some one → found ≡ Some other → one ≡ other
-same_array None one other a b = absurd (cc)
-same_array (Some array) one other a b = cc
 
 module _ (seats fewer : List Seat) (few : AreFewer seats fewer) where
   slot_lost : (one : Extent) → (seat_slot fewer one ≡ seat_slot seats one) ⊎ (seat_slot fewer one ≡ None)
@@ -75,7 +72,7 @@ pub is_loss : (config : Configuration) (guid : List ℕ) (seats fewer : List Sea
 is_loss config guid seats fewer before after one other few =
     let old = from_view config guid seats before one in
     let new = from_view config guid fewer after other in
-    let same : new.array ≡ old.array = same_array (lookup (same_guid guid) config.arrays) new.array old.array new.array_is old.array_is in
+    let same : new.array ≡ old.array = same_some (lookup (same_guid guid) config.arrays) new.array old.array new.array_is old.array_is in
     loss_of seats fewer before after old.array few old.tiers_are
     (subst (λ (a : Array). array_tiers a ≡ Some after.tiers) same new.tiers_are) old.parts_are
     (subst (λ (a : Array). after.parts ≡ parts_of fewer a.elements) same new.parts_are) old.marked_is

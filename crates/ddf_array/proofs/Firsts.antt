@@ -34,10 +34,6 @@ pub by_some : {X : Type 0} (found first : Option X) → is_some found ≡ true �
 by_some None first is then = absurd (cc)
 by_some (Some x) first is then = sym (then x refl)
 
-pub by_none : {X : Type 0} (found : Option X) → is_some found ≡ false → found ≡ None
-by_none None is = refl
-by_none (Some x) is = absurd (cc)
-
 pub first_option : {X : Type 0} (o : Option X) → slice_get (option_to_list o) 0 ≡ o
 first_option None = refl
 first_option (Some x) = refl

@@ -1,4 +1,3 @@
-pub mod Bools
 pub mod Ranges
 pub mod RowCells
 pub mod ElementCells

@@ -1,9 +1,10 @@
 -- An array that is within its level after a loss was so before.
-use Rattle.std.proofs.Common.{◌≡◌, ◌∙◌, ⊎_elim, ℕ, zero, suc, ◌+◌, ◌≤◌, Bool, true, false, not, List, [], ◌∷◌, Option, Some, None, refl, sym, ap, arith, map, length, get_or, ◌&&◌, ◌||◌}
+use Rattle.std.proofs.Common.{◌≡◌, ◌∙◌, ⊎_elim, ℕ, zero, suc, ◌+◌, ◌≤◌, Bool, true, false, not, List, [], ◌∷◌, Option, Some, None, refl, sym, ap, arith, map, length, get_or, ◌&&◌}
 use Rattle.std.specs.Prelude.{nat_le, is_some, count_by, if◌then◌else◌}
 use Rattle.std.specs.List.{list_any, list_all}
 use Rattle.std.proofs.lemmas.Bool.{leb-true, le-leb}
 use Rattle.std.proofs.lemmas.List.Sums.{sum_by-cons}
+use Rattle.ddf_lemmas.proofs.Tests.{and_first, and_keeps, and_second, one_less_where_kept, or_keeps}
 use Rattle.ddf_primary.specs.declared.need.Need.{Need}
 use Rattle.ddf_primary.specs.declared.need.Need.TheVariants.{All, One, AllButOne, Neighbours}
 use Rattle.ddf_primary.specs.Placement.{Placement}
@@ -18,18 +19,7 @@ use Rattle.ddf_array.specs.Cells.{is_in_every}
 use Rattle.ddf_array.specs.Volume.{Volume}
 use Rattle.ddf_array.specs.Within.{is_part_within, is_mirrored, is_within}
 use Rattle.ddf_array.specs.Losing.{IsLostPlace, AreLostPlaces, AreLostParts, IsLoss}
-use Rattle.ddf_array.proofs.Bools.{and_first, and_second}
 use Rattle.ddf_array.proofs.Losses.{same_parts}
-
-or_keeps : (a b c d : Bool) → (a ≡ true → b ≡ true) → (c ≡ true → d ≡ true) → (a || c) ≡ true → (b || d) ≡ true
-or_keeps true b c d first rest e = ap (λ x. x || d) (first refl)
-or_keeps false true c d first rest e = refl
-or_keeps false false c d first rest e = rest e
-
-and_keeps : (a b c d : Bool) → (a ≡ true → b ≡ true) → (c ≡ true → d ≡ true) → (a && c) ≡ true → (b && d) ≡ true
-and_keeps true b true d first rest e = ap (λ x. x && d) (first refl) ∙ rest refl
-and_keeps true b false d first rest e = absurd (cc)
-and_keeps false b c d first rest e = absurd (cc)
 
 -- ---- places
 
@@ -43,11 +33,6 @@ available_keeps before after lost e =
     let there = and_second after.synced (is_some after.slot) e in
     ap (λ b. b && is_some before.slot) synced
     ∙ ⊎_elim (λ same. ap is_some (sym same) ∙ there) (λ none. absurd (none_there after.slot none there)) lost.slot_is
-
-one_away : (x y : Bool) → (y ≡ true → x ≡ true) → (if not x then 1 else 0) ≤ (if not y then 1 else 0)
-one_away true y keeps = omega arith
-one_away false true keeps = let never : false ≡ true = keeps refl in absurd (cc)
-one_away false false keeps = omega arith
 
 any_keeps : (befores afters : List Place) → AreLostPlaces befores afters → list_any is_available afters ≡ true → list_any is_available befores ≡ true
 any_keeps [] [] lost e = e
@@ -63,7 +48,7 @@ all_keeps (before ∷ befores) [] lost e = absurd lost
 all_keeps (before ∷ befores) (after ∷ afters) lost e =
     and_keeps (is_available after) (is_available before) (list_all is_available afters) (list_all is_available befores) (available_keeps before after lost.0) (all_keeps befores afters lost.1) e
 
-abbrev away : List Place → ℕ
+abbrev pub away : List Place → ℕ
 away places = count_by (λ place. not (is_available place)) places
 
 fewer_away : (befores afters : List Place) → AreLostPlaces befores afters → away befores ≤ away afters
@@ -74,7 +59,7 @@ fewer_away (before ∷ befores) (after ∷ afters) lost =
     let weight : Place → ℕ = λ place. if not (is_available place) then 1 else 0 in
     let old : away (before ∷ befores) ≡ weight before + away befores = sum_by-cons weight before befores in
     let new : away (after ∷ afters) ≡ weight after + away afters = sum_by-cons weight after afters in
-    let one : weight before ≤ weight after = one_away (is_available before) (is_available after) (available_keeps before after lost.0) in
+    let one : weight before ≤ weight after = one_less_where_kept (is_available before) (is_available after) (available_keeps before after lost.0) in
     omega (arith, old, new, one, fewer_away befores afters lost.1)
 
 lost_count : (befores afters : List Place) → AreLostPlaces befores afters → length (map is_available afters) ≡ length (map is_available befores)

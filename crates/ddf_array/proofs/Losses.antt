@@ -2,6 +2,8 @@
 use Rattle.std.proofs.Common.{◌≡◌, ◌∙◌, ◌⊎◌, ⊎_elim, ℕ, zero, suc, ◌+◌, ◌<◌, List, [], ◌∷◌, ◌++◌, Bool, true, false, Option, Some, None, refl, sym, ap, subst, arith, map, length, slice_get}
 use Rattle.std.specs.Prelude.{is_some, filter_map, option_map, option_and_then, if◌then◌else◌}
 use Rattle.std.specs.List.{range_with_len, flat_map, cons_option}
+use Rattle.std.proofs.lemmas.Option.{none-some}
+use Rattle.ddf_lemmas.proofs.Lists.{cons_keeps, first_get, mapped_at}
 use Rattle.ddf_bay.specs.Sectors.{Image}
 use Rattle.ddf_primary.specs.Placement.{Placement}
 use Rattle.ddf_array.specs.declared.place.Place.{Place}
@@ -42,35 +44,22 @@ among_behind : {X : Type 0} (zs xs ys : List X) → Among xs ys → Among xs (zs
 among_behind [] xs ys among = among
 among_behind (z ∷ zs) xs ys among = among_later xs (zs ++ ys) z (among_behind zs xs ys among)
 
-pub at_front : {X : Type 0} (ys zs : List X) (k : ℕ) (x : X) → slice_get ys k ≡ Some x → slice_get (ys ++ zs) k ≡ Some x
-at_front [] zs k x at = absurd (cc)
-at_front (y ∷ ys) zs zero x at = at
-at_front (y ∷ ys) zs (suc k) x at = at_front ys zs k x at
-
 among_before : {X : Type 0} (xs ys zs : List X) → Among xs ys → Among xs (ys ++ zs)
 among_before [] ys zs among = among
-among_before (x ∷ xs) ys zs among = ((among.0.0, at_front ys zs among.0.0 x among.0.1), among_before xs ys zs among.1)
+among_before (x ∷ xs) ys zs among = ((among.0.0, first_get ys zs among.0.0 x among.0.1), among_before xs ys zs among.1)
 
 among_both : {X : Type 0} (xs xs' ys : List X) → Among xs ys → Among xs' ys → Among (xs ++ xs') ys
 among_both [] xs' ys a b = b
 among_both (x ∷ xs) xs' ys a b = (a.0, among_both xs xs' ys a.1 b)
 
-pub mapped_at : {X Y : Type 0} (f : X → Y) (ys : List X) (k : ℕ) (x : X) → slice_get ys k ≡ Some x → slice_get (map f ys) k ≡ Some (f x)
-mapped_at f [] k x at = absurd (cc)
-mapped_at f (y ∷ ys) zero x at = let same : y ≡ x = cc in ap (λ z. Some (f z)) same
-mapped_at f (y ∷ ys) (suc k) x at = mapped_at f ys k x at
-
 among_map : {X Y : Type 0} (f : X → Y) (xs ys : List X) → Among xs ys → Among (map f xs) (map f ys)
 among_map f [] ys among = among
 among_map f (x ∷ xs) ys among = ((among.0.0, mapped_at f ys among.0.0 x among.0.1), among_map f xs ys among.1)
 
-not_some : {Y : Type 0} (y : Y) → (◌≡◌ {A = Option Y} None (Some y)) → ⊥
-not_some y e = cc
-
 among_cons : {Y : Type 0} (o p : Option Y) (xs ys : List Y) → ((y : Y) → o ≡ Some y → p ≡ Some y) → Among xs ys → Among (cons_option o xs) (cons_option p ys)
 among_cons None None xs ys keeps rest = rest
 among_cons None (Some y) xs ys keeps rest = among_later xs ys y rest
-among_cons (Some y) None xs ys keeps rest = absurd (not_some y (keeps y refl))
+among_cons (Some y) None xs ys keeps rest = absurd (none-some y (keeps y refl))
 among_cons (Some y) (Some z) xs ys keeps rest = ((0, keeps y refl), among_later xs ys z rest)
 
 -- what is found after is found before
@@ -88,10 +77,10 @@ among_flat_map f g keeps (x ∷ xs) =
 site_by : (synced : Bool) (start sector : ℕ) (after before : Option ℕ) (one : Site) → (after ≡ before) ⊎ (after ≡ None)
     → (if synced then option_map (λ slot. site_on slot (start + sector)) after else None) ≡ Some one
     → (if synced then option_map (λ slot. site_on slot (start + sector)) before else None) ≡ Some one
-site_by false start sector after before one is e = absurd (not_some one e)
+site_by false start sector after before one is e = absurd (none-some one e)
 site_by true start sector after before one is e =
     ⊎_elim (λ same. ap (option_map (λ slot. site_on slot (start + sector))) (sym same) ∙ e)
-    (λ none. absurd (not_some one (ap (option_map (λ slot. site_on slot (start + sector))) (sym none) ∙ e))) is
+    (λ none. absurd (none-some one (ap (option_map (λ slot. site_on slot (start + sector))) (sym none) ∙ e))) is
 
 place_keeps : (before after : Place) → IsLostPlace before after → (sector : ℕ) (one : Site) → site after sector ≡ Some one → site before sector ≡ Some one
 place_keeps before after lost sector one e =
@@ -112,18 +101,11 @@ same_count [] (after ∷ afters) lost = absurd lost
 same_count (before ∷ befores) [] lost = absurd lost
 same_count (before ∷ befores) (after ∷ afters) lost = ap suc (same_count befores afters lost.1)
 
-cons_keeps : {Y : Type 0} (o p : Option Y) (q r : Option (List Y)) (all : List Y) → ((y : Y) → o ≡ Some y → p ≡ Some y) → ((ys : List Y) → q ≡ Some ys → r ≡ Some ys)
-    → option_and_then (λ y. option_map (λ ys. y ∷ ys) q) o ≡ Some all → option_and_then (λ y. option_map (λ ys. y ∷ ys) r) p ≡ Some all
-cons_keeps None p q r all keep rest e = absurd (not_some all e)
-cons_keeps (Some y) p None r all keep rest e = absurd (not_some all e)
-cons_keeps (Some y) p (Some ys) r all keep rest e =
-    ap (option_and_then (λ y. option_map (λ ys. y ∷ ys) r)) (keep y refl) ∙ ap (option_map (λ ys. y ∷ ys)) (rest ys refl) ∙ e
-
-all_of_cons : {Y : Type 0} (o : Option Y) (os : List (Option Y)) → all_of (o ∷ os) ≡ option_and_then (λ y. option_map (λ ys. y ∷ ys) (all_of os)) o
+pub all_of_cons : {Y : Type 0} (o : Option Y) (os : List (Option Y)) → all_of (o ∷ os) ≡ option_and_then (λ y. option_map (λ ys. y ∷ ys) (all_of os)) o
 all_of_cons None os = refl
 all_of_cons (Some y) os = refl
 
-all_keep : {Y : Type 0} (f g : ℕ → Option Y) → ((x : ℕ) (y : Y) → f x ≡ Some y → g x ≡ Some y) → (xs : List ℕ) (ys : List Y) → all_of (map f xs) ≡ Some ys → all_of (map g xs) ≡ Some ys
+pub all_keep : {Y : Type 0} (f g : ℕ → Option Y) → ((x : ℕ) (y : Y) → f x ≡ Some y → g x ≡ Some y) → (xs : List ℕ) (ys : List Y) → all_of (map f xs) ≡ Some ys → all_of (map g xs) ≡ Some ys
 all_keep f g keep [] ys e = e
 all_keep f g keep (x ∷ xs) ys e =
     all_of_cons (g x) (map g xs)

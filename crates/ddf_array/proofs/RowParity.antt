@@ -1,9 +1,11 @@
 -- Where a row of a redundant array is all available, its parity is the sum of its data cells.
-use Rattle.std.proofs.Common.{◌≡◌, ◌∙◌, ℕ, suc, ◌+◌, ◌-◌, ◌/◌, ◌<◌, Bool, true, false, List, [], ◌∷◌, ◌++◌, Option, Some, None, refl, sym, ap, arith, map, length, slice_get, ◌&&◌, ◌||◌}
-use Rattle.std.specs.Prelude.{◌==◌, find, option_to_list, option_map, unwrap_or, if◌then◌else◌}
+use Rattle.std.proofs.Common.{◌≡◌, ◌∙◌, ℕ, suc, ◌+◌, ◌-◌, ◌/◌, ◌<◌, Bool, true, false, List, [], ◌∷◌, ◌++◌, Option, Some, None, refl, sym, ap, arith, map, length, slice_get, ◌&&◌, ◌||◌, append-nil}
+use Rattle.std.specs.Prelude.{◌==◌, option_to_list, option_map, unwrap_or, if◌then◌else◌}
 use Rattle.std.specs.List.{range_with_len, list_any}
 use Rattle.std.proofs.lemmas.Bool.{eqb-true}
 use Rattle.std.proofs.lemmas.List.{map-append}
+use Rattle.ddf_lemmas.proofs.Lists.{found_passes, get_filter_map}
+use Rattle.ddf_lemmas.proofs.Tests.{and_first, and_second}
 use Rattle.ddf_bay.specs.Sectors.{Image}
 use Rattle.ddf_parity.specs.Xor.{xor, xor_all, zeros}
 use Rattle.ddf_parity.specs.XorLaws.{xor_all_first, xor_all_taken_out}
@@ -24,20 +26,11 @@ use Rattle.ddf_array.specs.Values.{bytes_at, sum_at, value}
 use Rattle.ddf_array.specs.Redundant.{IsRedundant, whole_row}
 use Rattle.ddf_array.specs.Rows.{block_at, cell_value, data_by, holds, row_sum, value_without_block}
 use Rattle.ddf_array.specs.Sound.{AreSectors}
-use Rattle.ddf_array.proofs.Bools.{and_first, and_second}
-use Rattle.ddf_array.proofs.Consistent.{at_part, copy_gives, position_within, to_filter, to_flat}
-use Rattle.ddf_array.proofs.Ranges.{append-nil, range-around}
+use Rattle.ddf_array.proofs.Consistent.{at_part, copy_gives, position_within, to_flat}
+use Rattle.ddf_array.proofs.Ranges.{range-around}
 use Rattle.ddf_array.proofs.RowSums.{cell_from_row, own_from_others, split_all}
 
 -- ---- items that pass a test
-
-found_by : {X : Type 0} (test : X → Bool) (y x : X) (b : Bool) (rest : Option X) → test y ≡ b → (if b then Some y else rest) ≡ Some x → (rest ≡ Some x → test x ≡ true) → test x ≡ true
-found_by test y x true rest is e later = let same : y ≡ x = cc in sym (ap test same) ∙ is
-found_by test y x false rest is e later = later e
-
-pub found_passes : {X : Type 0} (test : X → Bool) (xs : List X) (x : X) → find test xs ≡ Some x → test x ≡ true
-found_passes test [] x e = absurd (cc)
-found_passes test (y ∷ xs) x e = found_by test y x (test y) (find test xs) refl e (λ later. found_passes test xs x later)
 
 pub record Passes {X : Type 0} (test : X → Bool) (xs : List X) : Type 0 where
   pub at : ℕ
@@ -77,7 +70,7 @@ module _ (v : Volume) (image : Image) (is : IsRedundant v image) (element : ℕ)
       let on : cell.item.0 ≡ position = eqb-true cell.item.0 position (and_first (cell.item.0 == position) (cell.item.1 == sector) cell.passes) in
       let at : cell.item.1 ≡ sector = eqb-true cell.item.1 sector (and_second (cell.item.0 == position) (cell.item.1 == sector) cell.passes) in
       let there : site_at part.places cell.item.0 cell.item.1 ≡ Some own = ap (λ p. site_at part.places p cell.item.1) on ∙ ap (site_at part.places position) at ∙ own_at in
-      let inner = to_filter (λ (c : ℕ × ℕ). site_at part.places c.0 c.1) (element_cells part.shape spot.item.block) cell.at cell.item own cell.is_at there in
+      let inner = get_filter_map (λ (c : ℕ × ℕ). site_at part.places c.0 c.1) (element_cells part.shape spot.item.block) cell.at cell.item own cell.is_at there in
       let among =
       to_flat (at_spot v.parts element_copies) (block_spots v block) spot.at inner.0 spot.item own spot.is_at
       (ap (λ (l : List Site). slice_get l inner.0) (at_part v.parts element_copies spot.item part (ap (slice_get v.parts) here ∙ part_at)) ∙ inner.1) in
@@ -124,7 +117,7 @@ module _ (cell : ℕ → List ℕ) (members position : ℕ) where
 
 -- ---- the cells of a row
 
-rest_of : (x : Site) (o : Option (List Site)) (all : List Site) → option_map (λ l. x ∷ l) o ≡ Some all → (rest : List Site) × (o ≡ Some rest) × (x ∷ rest ≡ all)
+pub rest_of : (x : Site) (o : Option (List Site)) (all : List Site) → option_map (λ l. x ∷ l) o ≡ Some all → (rest : List Site) × (o ≡ Some rest) × (x ∷ rest ≡ all)
 rest_of x None all e = absurd (cc)
 rest_of x (Some rest) all e = (rest, refl, cc)
 

@@ -1,11 +1,12 @@
 -- A row that sums to zero: each cell is the sum of the others.
-use Rattle.std.proofs.Common.{◌≡◌, ◌≢◌, ◌∙◌, ℕ, zero, suc, ◌+◌, ◌-◌, ◌<◌, ◌≤◌, Bool, not, List, [], ◌∷◌, ◌++◌, Option, Some, None, length, refl, sym, ap, map, arith}
+use Rattle.std.proofs.Common.{◌≡◌, ◌∙◌, ℕ, ◌+◌, ◌-◌, ◌<◌, Bool, not, List, [], ◌∷◌, ◌++◌, Option, Some, None, length, refl, sym, ap, map, arith}
 use Rattle.std.specs.Prelude.{bit_xor, filter, ◌==◌, option_map, if◌then◌else◌}
 use Rattle.std.specs.List.{range_with_len}
-use Rattle.std.proofs.lemmas.Bool.{ne_eqb, eq-eqb}
+use Rattle.std.proofs.lemmas.Bool.{eq-eqb}
 use Rattle.std.proofs.lemmas.List.{map-append, length-replicate}
 use Rattle.std.proofs.lemmas.List.Elements.{filter-append}
 use Rattle.std.proofs.lemmas.Simd.{length-zip2}
+use Rattle.ddf_lemmas.proofs.Lists.{filter_not_in_range}
 use Rattle.ddf_bay.specs.Sectors.{Image}
 use Rattle.ddf_parity.specs.Xor.{xor, xor_all, zeros}
 use Rattle.ddf_parity.specs.XorLaws.{xor_all_first, xor_all_taken_out, same_from_zero}
@@ -18,11 +19,11 @@ use Rattle.ddf_array.specs.Redundant.{whole_row}
 use Rattle.ddf_array.specs.Sound.{AreSectors}
 use Rattle.ddf_array.proofs.Ranges.{range-around}
 
-long_zeros : length zeros ≡ 512
+pub long_zeros : length zeros ≡ 512
 unfolding zeros
 long_zeros = let none : ℕ = 0 in length-replicate 512 none
 
-long_sum : (image : Image) → AreSectors image → (sites : List Site) → length (sum_at image sites) ≡ 512
+pub long_sum : (image : Image) → AreSectors image → (sites : List Site) → length (sum_at image sites) ≡ 512
 long_sum image are [] = long_zeros
 long_sum image are (site ∷ sites) =
     let one = are site.slot site.lba in
@@ -80,23 +81,16 @@ module _ {X : Type 0} where
   join_all (None ∷ xs) ys own front back e f = absurd (cc)
   join_all (Some x ∷ xs) ys own front back e f = join_more x xs ys own front back (all_of xs) refl e (λ rest is. join_all xs ys own rest back is f)
 
-not_in : (position first count : ℕ) → ((k : ℕ) → first ≤ k → k < first + count → k ≢ position) → filter (λ other. not (other == position)) (range_with_len first count) ≡ range_with_len first count
-not_in position first zero apart = refl
-not_in position first (suc count) apart =
-    ap (λ b. if not b then first ∷ filter (λ other. not (other == position)) (range_with_len (first + 1) count) else filter (λ other. not (other == position)) (range_with_len (first + 1) count))
-    (ne_eqb first position (apart first (omega arith) (omega arith)))
-    ∙ ap (λ l. first ∷ l) (not_in position (first + 1) count (λ k low high. apart k (omega arith) (omega arith)))
-
-others_are : (members position : ℕ) → position < members → other_positions members position ≡ range_with_len 0 position ++ range_with_len (position + 1) (members - position - 1)
+pub others_are : (members position : ℕ) → position < members → other_positions members position ≡ range_with_len 0 position ++ range_with_len (position + 1) (members - position - 1)
 others_are members position below =
     let test : ℕ → Bool = λ other. not (other == position) in
     let front = range_with_len 0 position in
     let back = range_with_len (position + 1) (members - position - 1) in
     ap (filter test) (range-around members position below) ∙ filter-append test front (position ∷ back)
-    ∙ ap (λ l. l ++ filter test (position ∷ back)) (not_in position 0 position (λ k low high same. omega (arith, same, high)))
+    ∙ ap (λ l. l ++ filter test (position ∷ back)) (filter_not_in_range position 0 position (λ k low high same. omega (arith, same, high)))
     ∙ ap (λ l. front ++ l)
     (ap (λ b. if not b then position ∷ filter test back else filter test back) (eq-eqb position position refl)
-    ∙ not_in position (position + 1) (members - position - 1) (λ k low high same. omega (arith, same, low)))
+    ∙ filter_not_in_range position (position + 1) (members - position - 1) (λ k low high same. omega (arith, same, low)))
 
 -- where a row sums to zero, a cell of it is the sum of the others
 pub cell_from_row : (image : Image) → AreSectors image → (part : Part) (position sector : ℕ) (own : Site) (sites : List Site) → position < length part.places

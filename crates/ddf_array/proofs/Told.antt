@@ -1,12 +1,14 @@
 -- What a view tells of the array that it is of.
-use Rattle.std.proofs.Common.{◌≡◌, ◌∙◌, ℕ, ◌+◌, Bool, true, false, not, List, [], ◌∷◌, Option, Some, None, Ok, Err, refl, sym, ap, subst, arith, map, filter_map, length, suc, ◌&&◌, ◌||◌}
-use Rattle.std.specs.Prelude.{nat_le, nat_lt, is_some, option_map, count_by, ◌==◌, if◌then◌else◌}
+use Rattle.std.proofs.Common.{◌≡◌, ◌∙◌, ℕ, ◌+◌, Bool, true, false, List, [], ◌∷◌, Option, Some, None, Ok, Err, refl, sym, ap, subst, map, filter_map, length, suc, ◌&&◌, ◌||◌, map-id}
+use Rattle.std.specs.Prelude.{nat_le, nat_lt, is_some, option_map, ◌==◌, if◌then◌else◌}
 use Rattle.std.specs.Result.{result_ok}
 use Rattle.std.specs.Map.{lookup}
 use Rattle.std.specs.List.{cons_option, list_any, list_all, flat_map}
-use Rattle.std.proofs.lemmas.Bool.{ltb-false, le-leb, eqb-true, leb-true}
+use Rattle.std.proofs.lemmas.Bool.{ltb-false, le-leb, eqb-true}
 use Rattle.std.proofs.lemmas.List.Folds.{list_any-append}
-use Rattle.std.proofs.lemmas.List.Sums.{sum_by-cons}
+use Rattle.ddf_lemmas.proofs.Lists.{all_map, any_map, count_map}
+use Rattle.ddf_lemmas.proofs.Tests.{and_first, and_second, code_of_several, or_first, or_second}
+use Rattle.ddf_lemmas.proofs.Options.{same_some}
 use Rattle.ddf_primary.specs.declared.need.Need.{Need}
 use Rattle.ddf_primary.specs.declared.need.Need.TheVariants.{All, One, AllButOne, Neighbours}
 use Rattle.ddf_primary.specs.Placement.{Placement}
@@ -38,36 +40,16 @@ use Rattle.ddf_array.specs.Within.{is_part_within, is_mirrored, is_within, keeps
 use Rattle.ddf_array.specs.Viewing.{place_of, known_part, view_of, is_seated, is_array_within, is_array_redundant}
 use Rattle.ddf_array.proofs.Shapes.{made}
 use Rattle.ddf_array.proofs.Viewed.{Viewed, from_view}
-use Rattle.ddf_array.proofs.Fewer.{same_array}
-use Rattle.ddf_array.proofs.Bools.{and_first, and_second, or_first, or_second}
 use Rattle.ddf_array.proofs.Usable.{complete, below_floors, shapes}
 
 -- ---- lists of answers
-
-any_map : {X : Type 0} (p : X → Bool) (xs : List X) → list_any p xs ≡ list_any (λ b. b) (map p xs)
-any_map p [] = refl
-any_map p (x ∷ xs) = ap (λ b. p x || b) (any_map p xs)
-
-all_map : {X : Type 0} (p : X → Bool) (xs : List X) → list_all p xs ≡ list_all (λ b. b) (map p xs)
-all_map p [] = refl
-all_map p (x ∷ xs) = ap (λ b. p x && b) (all_map p xs)
-
-count_map : {X : Type 0} (p : X → Bool) (xs : List X) → count_by (λ x. not (p x)) xs ≡ count_by (λ b. not b) (map p xs)
-count_map p [] = refl
-count_map p (x ∷ xs) =
-    sum_by-cons (λ y. if not (p y) then 1 else 0) x xs ∙ ap (λ (n : ℕ). (if not (p x) then 1 else 0) + n) (count_map p xs)
-    ∙ sym (sum_by-cons (λ b. if not b then 1 else 0) (p x) (map p xs))
-
-map_same : (bs : List Bool) → map (λ b. b) bs ≡ bs
-map_same [] = refl
-map_same (b ∷ bs) = ap (λ l. b ∷ l) (map_same bs)
 
 -- what an element needs asks only which positions are available
 pub enough_map : {X : Type 0} (need : Need) (p : X → Bool) (xs : List X) → has_enough need p xs ≡ has_enough need (λ b. b) (map p xs)
 enough_map All p xs = all_map p xs
 enough_map One p xs = any_map p xs
 enough_map AllButOne p xs = ap (λ n. nat_le n 1) (count_map p xs)
-enough_map (Neighbours spread) p xs = ap (one_of_each spread) (sym (map_same (map p xs)))
+enough_map (Neighbours spread) p xs = ap (one_of_each spread) (sym (map-id (map p xs)))
 
 -- ---- the level of an element
 
@@ -157,7 +139,7 @@ module _ (seats : List Seat) (elements : ℕ) where
 
 -- ---- the secondary level
 
-every_by : (code : ℕ) (level : SecondaryLevel) → served_level code ≡ Some level → is_in_every level ≡ (code == 1)
+pub every_by : (code : ℕ) (level : SecondaryLevel) → served_level code ≡ Some level → is_in_every level ≡ (code == 1)
 every_by code level e = by_0 (code == 0) refl e
   where
     by_3 : (a : Bool) → (code == 1) ≡ false → ◌≡◌ {A = Option SecondaryLevel} (if a then Some Spanned else None) (Some level) → is_in_every level ≡ (code == 1)
@@ -192,18 +174,6 @@ tiers_level sizes tiers code (Some level) true b e = by_units (b level) e
     by_units true e = let same : ◌≡◌ {A = Arrangement} (record { level = level; sizes = sizes }) tiers = cc in ap (λ (t : Arrangement). Some t.level) same
     by_units false e = absurd (cc)
 
-several : (n code : ℕ) (two : Bool) → nat_le 2 n ≡ two → ((if n == 1 then 0x00 else code) == 1 && two) ≡ (code == 1 && two)
-several n code false is = none _ ∙ sym (none _)
-  where
-    none : (b : Bool) → (b && false) ≡ false
-    none true = refl
-    none false = refl
-several n code true is = ap (λ b. (if b then 0x00 else code) == 1 && true) (not_one (n == 1) refl)
-  where
-    not_one : (b : Bool) → (n == 1) ≡ b → b ≡ false
-    not_one true one = let same = eqb-true n 1 one in absurd (omega (arith, same, leb-true 2 n is))
-    not_one false one = refl
-
 -- ---- arrays
 
 module _ (conf : Configuration) (guid : List ℕ) (seats : List Seat) (v : Volume) (view : Viewed conf guid seats v) where
@@ -222,7 +192,7 @@ module _ (conf : Configuration) (guid : List ℕ) (seats : List Seat) (v : Volum
       let level = tiers_level (sizes array) v.tiers code (served_level code) (takes_count (sizes array)) (λ level. takes_units level (sizes array)) view.tiers_are in
       ap (λ (m : ℕ). is_in_every v.tiers.level && nat_le 2 m) (elements_are).count
       ∙ ap (λ b. b && nat_le 2 n) (every_by code v.tiers.level level)
-      ∙ several n array.secondary (nat_le 2 n) refl
+      ∙ code_of_several n array.secondary (nat_le 2 n) refl
 
   capacity_is : capacity v ≡ array_capacity view.array
   capacity_is = sym (ap (λ (t : Option Arrangement). elim t [ None ↦ 0 | Some tiers ↦ length (spots tiers) ]) view.tiers_are)
@@ -243,7 +213,7 @@ module _ (conf : Configuration) (guid : List ℕ) (seats : List Seat) (v : Volum
   view = from_view conf guid seats v e
 
   array_is : (view).array ≡ array
-  array_is = same_array (lookup (same_guid guid) conf.arrays) (view).array array (view).array_is found
+  array_is = same_some (lookup (same_guid guid) conf.arrays) (view).array array (view).array_is found
 
   pub told_capacity : capacity v ≡ array_capacity array
   told_capacity = capacity_is conf guid seats v view ∙ ap array_capacity array_is

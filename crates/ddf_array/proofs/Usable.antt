@@ -2,6 +2,8 @@
 use Rattle.std.proofs.Common.{◌≡◌, ℕ, Bool, true, false, List, [], ◌∷◌, None, refl, ◌&&◌, ◌||◌, not}
 use Rattle.std.specs.Prelude.{is_some}
 use Rattle.std.specs.List.{list_all, list_any}
+use Rattle.std.proofs.lemmas.Bool.{not-true}
+use Rattle.ddf_lemmas.proofs.Tests.{and_first, and_second}
 use Rattle.ddf_config.specs.declared.member.Member.{Member}
 use Rattle.ddf_config.specs.declared.array.Array.{Array}
 use Rattle.ddf_config.specs.declared.extent.Extent.{Extent}
@@ -16,9 +18,8 @@ use Rattle.ddf_config.specs.Shapes.{array_tiers, has_shapes, has_tiers}
 use Rattle.ddf_config.specs.Unusable.{passes_floor, is_served_on, unusable}
 use Rattle.ddf_config.specs.Within.{is_complete}
 use Rattle.ddf_config.proofs.Firsts.{all_pass}
-use Rattle.ddf_array.proofs.Bools.{and_first, and_second, not_true}
 
-holds : (b : Bool) (refusal : Refusal) → refuse_if (not b) refusal ≡ None → b ≡ true
+pub holds : (b : Bool) (refusal : Refusal) → refuse_if (not b) refusal ≡ None → b ≡ true
 holds true refusal e = refl
 holds false refusal e = absurd (cc)
 
@@ -36,7 +37,7 @@ module _ (members : List (ℕ × Member)) (seats : List Seat) (all : List Extent
       (all_pass (unserved_level guid array ∷ refuse_if (not (is_served_on members seats all array)) Shape ∷ []) (refuse_if (not (is_complete array)) Lost) [] usable)
 
   pub below_floors : list_any (passes_floor seats) (array_extents array) ≡ false
-  below_floors = not_true _ (and_second (is_served members all array) (not (list_any (passes_floor seats) (array_extents array))) served_on)
+  below_floors = not-true _ (and_second (is_served members all array) (not (list_any (passes_floor seats) (array_extents array))) served_on)
 
   pub shapes : has_shapes array ≡ true
   shapes =

@@ -5,6 +5,9 @@ use Rattle.std.specs.Prelude.{IfSome, filter, filter_map, slice_get}
 use Rattle.std.specs.List.{AllByRecursion, IsDistinct, cons_option, list_any}
 use Rattle.std.specs.Option.{option_map_or}
 use Rattle.std.specs.Str.{bytes_eq}
+use Rattle.std.specs.Cmp.Derive.{one_truth}
+use Rattle.ddf_lemmas.proofs.Lists.{all_from, all_weaken, bytes_same, filter_get, filter_none, filter_pass}
+use Rattle.ddf_lemmas.proofs.Tests.{all_three}
 use Rattle.ddf_tables.specs.declared.disks.DiskEntry.{DiskEntry}
 use Rattle.ddf_config.specs.declared.member.Member.{Member}
 use Rattle.ddf_config.specs.declared.seat.Seat.{Seat}
@@ -19,7 +22,7 @@ use Rattle.ddf_view.specs.Readable.{DoNamesDiffer}
 use Rattle.ddf_view.specs.Reading.{disks_in, member_entry_in, read}
 use Rattle.ddf_view.specs.Shows.{shows}
 use Rattle.ddf_view.specs.View.{View, lists_current, lists_itself, view_of}
-use Rattle.ddf_view.proofs.Tests.{all_map, and_three, bytes_same, same_bytes}
+use Rattle.ddf_view.proofs.Tests.{and_three, same_bytes}
 use Rattle.ddf_group.specs.declared.shown.Shown.{Shown}
 use Rattle.ddf_group.specs.declared.answer.Assembled.{Assembled as Found}
 use Rattle.ddf_group.specs.declared.answer.Assembly.{Assembly}
@@ -29,7 +32,8 @@ use Rattle.ddf_group.specs.Names.{IsNamed}
 use Rattle.ddf_group.specs.Conflicts.{contradiction, has_two, sequence_of}
 use Rattle.ddf_group.specs.Shown.{shown_of}
 use Rattle.ddf_group.specs.Slots.{claimed, claims, claims_by, leaders, leading_view, leads as leads_at, lists_disk_of, none_later, numbers, sequence_in, shows_group, slot_at, view_in}
-use Rattle.ddf_rewrite.proofs.Lists.{all_at, all_by_get, all_mapped, some_same}
+use Rattle.ddf_group.proofs.Named.{named_at as slot_named}
+use Rattle.ddf_rewrite.proofs.Lists.{all_at, all_mapped, some_same}
 use Rattle.ddf_rewrite.proofs.NamesCan.{own_references}
 use Rattle.ddf_rewrite.proofs.ReadCan.{same_names}
 use Rattle.ddf_seats.specs.declared.seated.Seated.{Seated}
@@ -39,15 +43,13 @@ use Rattle.ddf_assembly.specs.Group.{group_as}
 use Rattle.ddf_assembly.specs.Reading.{AreNewest}
 use Rattle.ddf_seats.specs.Leading.{lags, leading_disks, leading_views, leads, some}
 use Rattle.ddf_seats.specs.Seated.{seated, seated_at, seats_in, views_in}
-use Rattle.ddf_assembly.proofs.AssembledLists.{all_three, among_kept, first_of_reference, same_test, some_mapped}
+use Rattle.ddf_assembly.proofs.AssembledLists.{among_kept, first_of_reference, some_mapped}
 use Rattle.ddf_assembly.proofs.ClaimedDisks.{HasDisk, disk_at, disks_have, found_twice, has_disk, own_disk, own_is, own_view, seats_are, seats_rise, view_at}
 use Rattle.ddf_assembly.proofs.ClaimedLeaders.{HasFirst, alone, IsSeen, claimed_view, has_first, lead_alike, leader_parts, leader_view, none_above, seen_alike, shows_by}
-use Rattle.ddf_seats.proofs.Lists.{filter_pass, filter_get}
 use Rattle.ddf_assembly.proofs.LeftBefore.{shown_at}
 use Rattle.ddf_assembly.proofs.LeftMembers.{IsCurrentIn, lists_from, read_current}
 use Rattle.ddf_assembly.proofs.Named.{shown_named}
-use Rattle.ddf_assembly.proofs.SettledLeaders.{leaders_claimed, lowest_leads, named_at as slot_named, none_claimed}
-use Rattle.ddf_assembly.proofs.SettledLists.{none_kept}
+use Rattle.ddf_assembly.proofs.SettledLeaders.{leaders_claimed, lowest_leads, none_claimed}
 use Rattle.ddf_assembly.proofs.SettledSeats.{Rise, filter_rises, level_on, same_group, same_sequence}
 
 -- ---- the group
@@ -138,7 +140,7 @@ module _ (newest : List (Option Newest)) (are : AreNewest newest) (guid : List �
       one = own_disk newest slot (has slot h);
       is_one = own_is newest slot (has slot h);
       is_seen = own_view newest slot (has slot h);
-      agrees = same_test (leads config (own_disk newest slot (has slot h))) (leads_at slots guid slot) slot_leads disk_leads;
+      agrees = one_truth (leads config (own_disk newest slot (has slot h))) (leads_at slots guid slot) slot_leads disk_leads;
     }
 
   -- ---- the claimed slots
@@ -148,7 +150,7 @@ module _ (newest : List (Option Newest)) (are : AreNewest newest) (guid : List �
   all_claimed = filter_pass (claims slots guid) (numbers slots)
 
   have : AllByRecursion (HasDisk newest) seats
-  have = all_map (λ slot. claims slots guid slot ≡ true) (HasDisk newest) has seats all_claimed
+  have = all_weaken (λ slot. claims slots guid slot ≡ true) (HasDisk newest) has seats all_claimed
 
   -- The disks of the seats are those of the claimed slots.
   disks_are : seated group ≡ filter_map (disk_at newest) seats
@@ -160,7 +162,7 @@ module _ (newest : List (Option Newest)) (are : AreNewest newest) (guid : List �
   all_have P each =
       subst (λ (disks : List Seated). AllByRecursion P disks) (sym disks_are)
       (disks_have newest P seats
-      (all_map (λ slot. claims slots guid slot ≡ true) (λ slot. (one : HasDisk newest slot) × P (own_disk newest slot one)) (λ slot h. (has slot h, each slot h)) seats all_claimed))
+      (all_weaken (λ slot. claims slots guid slot ≡ true) (λ slot. (one : HasDisk newest slot) × P (own_disk newest slot one)) (λ slot h. (has slot h, each slot h)) seats all_claimed))
 
   -- ---- the leaders
 
@@ -182,7 +184,7 @@ module _ (newest : List (Option Newest)) (are : AreNewest newest) (guid : List �
   some_by : (leading : List ℕ) → leaders slots guid ≡ leading → some (seated group) ≡ true → some (leading_disks group) ≡ true
   unfolding claimed leaders
   some_by [] e seated_some =
-      let no_seats : seats ≡ [] = none_kept (claims slots guid) (numbers slots) (none_claimed slots (shown_named newest are) guid none e) in
+      let no_seats : seats ≡ [] = filter_none (claims slots guid) (numbers slots) (none_claimed slots (shown_named newest are) guid none e) in
       let no_disks : seated group ≡ [] = disks_are ∙ ap (λ (some_slots : List ℕ). filter_map (disk_at newest) some_slots) no_seats in
       absurd (let nothing : some {X = Seated} [] ≡ true = subst (λ (disks : List Seated). some disks ≡ true) no_disks seated_some in cc)
   some_by (first ∷ rest) e seated_some =
@@ -215,7 +217,7 @@ module _ (newest : List (Option Newest)) (are : AreNewest newest) (guid : List �
   unless_lagging =
       subst (λ (disks : List Seated). AllByRecursion (λ disk. lags group disk ≡ false → IsAsGroup group disk) disks) (sym disks_are)
       (disks_have newest (λ disk. lags group disk ≡ false → IsAsGroup group disk) seats
-      (all_by_get (λ slot. (one : HasDisk newest slot) × (lags group (own_disk newest slot one) ≡ false → IsAsGroup group (own_disk newest slot one))) seats
+      (all_from (λ slot. (one : HasDisk newest slot) × (lags group (own_disk newest slot one) ≡ false → IsAsGroup group (own_disk newest slot one))) seats
       (λ i slot at. let one = all_at (HasDisk newest) seats i slot have at in (one, as_group i slot at one))))
 
   -- ---- what is absent
@@ -240,7 +242,7 @@ module _ (newest : List (Option Newest)) (are : AreNewest newest) (guid : List �
       → AllByRecursion (λ reference. is_current config.members reference ≡ true) (absent slots seats members)
   current_each members each =
       all_mapped (λ (reference : ℕ). is_current config.members reference ≡ true) (λ (entry : ℕ × Member). entry.0) (filter (is_absent slots seats) members)
-      (all_by_get (λ (entry : ℕ × Member). is_current config.members entry.0 ≡ true) (filter (is_absent slots seats) members)
+      (all_from (λ (entry : ℕ × Member). is_current config.members entry.0 ≡ true) (filter (is_absent slots seats) members)
       (λ k entry at.
       let passes = all_at (λ (one : ℕ × Member). is_absent slots seats one ≡ true) (filter (is_absent slots seats) members) k entry (filter_pass (is_absent slots seats) members) at in
       let place = filter_get (is_absent slots seats) members k entry at in

@@ -1,23 +1,13 @@
 -- Lists and tests that assembly is told by.
-use Rattle.std.proofs.Common.{◌≡◌, ℕ, zero, suc, Bool, true, false, ◌&&◌, ◌||◌, eqb, nat_eq, cond, List, [], ◌∷◌, map, Some, refl, ap, sym, ◌∙◌, subst}
-use Rattle.std.proofs.lemmas.Bool.{eq-eqb, eqb-true}
+use Rattle.std.proofs.Common.{◌≡◌, ℕ, zero, suc, Bool, true, false, ◌||◌, eqb, nat_eq, cond, List, [], ◌∷◌, map, Some, refl, ap, sym, ◌∙◌, subst}
+use Rattle.std.proofs.lemmas.Bool.{eq-eqb, eqb-true, cond-true, or_right}
 use Rattle.std.specs.Prelude.{filter, slice_get}
 use Rattle.std.specs.List.{IsDistinct, list_any}
 use Rattle.std.specs.Map.{lookup}
+use Rattle.ddf_lemmas.proofs.Lists.{mapped_at}
 use Rattle.ddf_config.specs.declared.member.Member.{Member}
-use Rattle.ddf_view.proofs.Finds.{when_true}
-use Rattle.ddf_rewrite.proofs.Lists.{all_at, get_map, or_true}
+use Rattle.ddf_rewrite.proofs.Lists.{all_at}
 use Rattle.ddf_seats.specs.Leading.{some}
-
--- ---- tests
-
-pub all_three : (a b c : Bool) → a ≡ true → b ≡ true → c ≡ true → (a && b && c) ≡ true
-all_three a b c p q r = rw (p, q, r) refl
-
-pub same_test : (a b : Bool) → (a ≡ true → b ≡ true) → (b ≡ true → a ≡ true) → a ≡ b
-same_test true b there back = sym (there refl)
-same_test false true there back = back refl
-same_test false false there back = refl
 
 -- ---- lists
 
@@ -37,7 +27,7 @@ among_kept test (y ∷ xs) i x at passes = by (among_kept test xs) (test y) refl
         let same : y ≡ x = cc in
         ap (λ (b : Bool). b || list_any (λ z. eqb z x) (filter test xs)) (eq-eqb y x same)
     by later false e zero at = let same : y ≡ x = cc in absurd (let no : true ≡ false = sym passes ∙ ap test (sym same) ∙ e in cc)
-    by later true e (suc k) at = or_true (eqb y x) (list_any (λ z. eqb z x) (filter test xs)) (later k x at passes)
+    by later true e (suc k) at = or_right (eqb y x) (list_any (λ z. eqb z x) (filter test xs)) (later k x at passes)
     by later false e (suc k) at = later k x at passes
 
 -- A member of which no other has the reference is looked up by it.
@@ -48,11 +38,11 @@ first_of_reference [] apart i entry at = absurd cc
 first_of_reference (first ∷ members) apart zero entry at =
     let same : first ≡ entry = cc in
     subst (λ (one : ℕ × Member). lookup (nat_eq one.0) (first ∷ members) ≡ Some one.1) same
-    (when_true (nat_eq first.0 first.0) (Some first.1) (lookup (nat_eq first.0) members) (eq-eqb first.0 first.0 refl))
+    (cond-true (nat_eq first.0 first.0) (Some first.1) (lookup (nat_eq first.0) members) (eq-eqb first.0 first.0 refl))
 first_of_reference (first ∷ members) apart (suc i) entry at = by (nat_eq entry.0 first.0) refl (first_of_reference members apart.1 i entry at)
   where
     by : (b : Bool) → nat_eq entry.0 first.0 ≡ b → lookup (nat_eq entry.0) members ≡ Some entry.1 → cond b (Some first.1) (lookup (nat_eq entry.0) members) ≡ Some entry.1
     by false e rest = rest
     by true e rest =
-        let away = all_at (λ (other : ℕ). nat_eq first.0 other ≡ false) (map (λ (one : ℕ × Member). one.0) members) i entry.0 apart.0 (get_map (λ (one : ℕ × Member). one.0) members i entry at) in
+        let away = all_at (λ (other : ℕ). nat_eq first.0 other ≡ false) (map (λ (one : ℕ × Member). one.0) members) i entry.0 apart.0 (mapped_at (λ (one : ℕ × Member). one.0) members i entry at) in
         absurd (let no : true ≡ false = sym (eq-eqb first.0 entry.0 (sym (eqb-true entry.0 first.0 e))) ∙ away in cc)

@@ -1,35 +1,25 @@
 -- The slots that lead a group that nothing contradicts: each shows the group by one view, of one sequence number.
-use Rattle.std.proofs.Common.{◌≡◌, ℕ, zero, suc, ◌≤◌, Bool, true, false, not, ◌&&◌, ◌||◌, nat_le, cond, List, [], ◌∷◌, length, map, Option, Some, None, refl, ap, sym, ◌∙◌, subst, arith, zero-add}
-use Rattle.std.proofs.lemmas.Bool.{and_parts, leb-true}
+use Rattle.std.proofs.Common.{◌≡◌, ℕ, ◌≤◌, Bool, true, false, not, ◌&&◌, ◌||◌, nat_le, cond, List, [], ◌∷◌, length, map, Option, Some, None, refl, ap, sym, ◌∙◌, subst, arith, zero-add}
+use Rattle.std.proofs.lemmas.Bool.{and_parts, leb-true, cond-true}
 use Rattle.std.proofs.Math.Bool.{and-true}
 use Rattle.std.specs.Prelude.{filter, filter_map, find, option_map, slice_get, unwrap_or}
 use Rattle.std.specs.List.{AllByRecursion, cons_option}
 use Rattle.std.specs.Option.{option_and_then, option_map_or}
 use Rattle.std.specs.Str.{bytes_eq}
-use Rattle.ddf_bytes.proofs.Nones.{none_map}
+use Rattle.ddf_lemmas.proofs.Lists.{found_place, list_all_read, none_found}
+use Rattle.ddf_lemmas.proofs.Options.{none_from_map}
 use Rattle.ddf_view.specs.View.{View, lists_itself}
-use Rattle.ddf_view.proofs.Finds.{place_within, when_true}
+use Rattle.ddf_view.proofs.Finds.{place_within}
 use Rattle.ddf_group.specs.declared.shown.Shown.{Shown}
 use Rattle.ddf_group.specs.declared.shown.Shown.TheVariants.{Nothing, One, Level, TwoDiffer}
 use Rattle.ddf_group.specs.declared.answer.Differ.TheVariants as differs
 use Rattle.ddf_group.specs.Conflicts.{contradiction, has_two, in_conflict, leads_with_two, sequence_of}
 use Rattle.ddf_group.specs.Names.{AreNamed}
 use Rattle.ddf_group.specs.Slots.{claims, claims_by, leading_view, leads, none_later, numbers, sequence_in, shows_group, slot_at, view_in}
-use Rattle.ddf_rewrite.proofs.Lists.{found_place, get_range, list_all_get}
+use Rattle.ddf_rewrite.proofs.Lists.{get_range}
 use Rattle.ddf_assembly.proofs.SettledLeaders.{HasView, has_view, parts}
 
 -- ---- lists
-
--- Where a test finds nothing, each item fails it.
-pub fails_at : {X : Type 0} (test : X → Bool) (xs : List X) → find test xs ≡ None → (i : ℕ) (x : X) → slice_get xs i ≡ Some x → test x ≡ false
-fails_at test [] h i x at = absurd cc
-fails_at {X = X} test (y ∷ ys) h i x at = by (fails_at test ys) (test y) refl h i at
-  where
-    by : (find test ys ≡ None → (k : ℕ) (z : X) → slice_get ys k ≡ Some z → test z ≡ false) → (b : Bool) → test y ≡ b → cond b (Some y) (find test ys) ≡ None
-        → (k : ℕ) → slice_get (y ∷ ys) k ≡ Some x → test x ≡ false
-    by later true e h k at = absurd cc
-    by later false e h zero at = let same : y ≡ x = cc in subst (λ (z : X). test z ≡ false) same e
-    by later false e h (suc k) at = later h k x at
 
 -- An item that two tests agree on, with what is found of it.
 pub record IsSeen {X D V : Type 0} (test : X → Bool) (of : D → Bool) (find_one : X → Option D) (view : X → Option V) (says : D → V) (x : X) : Type 0 where
@@ -84,7 +74,7 @@ module _ (slots : List Shown) (guid : List ℕ) where
   pub none_above : (sequence : ℕ) → none_later slots guid sequence ≡ true → (slot : ℕ) → shows_group guid (slot_at slots slot) ≡ true
       → sequence_in (slot_at slots slot) ≤ sequence
   none_above sequence none slot h =
-      let here = list_all_get (λ (one : ℕ). not (shows_group guid (slot_at slots one)) || nat_le (sequence_in (slot_at slots one)) sequence) (numbers slots) slot slot none (number_of slot h) in
+      let here = list_all_read (λ (one : ℕ). not (shows_group guid (slot_at slots one)) || nat_le (sequence_in (slot_at slots one)) sequence) (numbers slots) slot slot none (number_of slot h) in
       leb-true (sequence_in (slot_at slots slot)) sequence (sym (ap (λ (b : Bool). not b || nat_le (sequence_in (slot_at slots slot)) sequence) h) ∙ here)
 
   -- What a leader has.
@@ -134,7 +124,7 @@ module _ (slots : List Shown) (guid : List ℕ) where
 first_shows : (guid : List ℕ) (view : View) (rest : List View) → lists_itself view ≡ true → bytes_eq guid view.group ≡ true
     → option_map_or (bytes_eq guid) (option_map (λ (one : View). one.group) (find lists_itself (view ∷ rest))) false ≡ true
 first_shows guid view rest listed same =
-    ap (λ (found : Option View). option_map_or (bytes_eq guid) (option_map (λ (one : View). one.group) found) false) (when_true (lists_itself view) (Some view) (find lists_itself rest) listed) ∙ same
+    ap (λ (found : Option View). option_map_or (bytes_eq guid) (option_map (λ (one : View). one.group) found) false) (cond-true (lists_itself view) (Some view) (find lists_itself rest) listed) ∙ same
 
 -- A slot whose view lists its own disk shows the view's group.
 pub shows_by : (guid : List ℕ) (shown : Shown) (view : View) → view_in shown ≡ Some view → lists_itself view ≡ true → bytes_eq guid view.group ≡ true → shows_group guid shown ≡ true
@@ -148,8 +138,8 @@ module _ (slots : List Shown) (named : AreNamed slots) (guid : List ℕ) (none :
   -- No leader has two copies that differ.
   pub alone : (slot : ℕ) → leads slots guid slot ≡ true → has_two (slot_at slots slot) ≡ false
   alone slot h =
-      let found = none_map (λ one. in_conflict slots guid one one differs.Copies) (find (leads_with_two slots guid) (numbers slots)) (parts slots named guid none).0 in
-      let both = fails_at (leads_with_two slots guid) (numbers slots) found slot slot (number_of slots guid slot (leader_parts slots guid slot h).0) in
+      let found = none_from_map (λ one. in_conflict slots guid one one differs.Copies) (find (leads_with_two slots guid) (numbers slots)) (parts slots named guid none).0 in
+      let both = none_found (leads_with_two slots guid) (numbers slots) found slot slot (number_of slots guid slot (leader_parts slots guid slot h).0) in
       sym (and-true (has_two (slot_at slots slot))) ∙ ap (λ (b : Bool). has_two (slot_at slots slot) && b) (sym h) ∙ both
 
   -- A leader shows the group by one view.

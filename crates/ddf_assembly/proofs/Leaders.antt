@@ -4,6 +4,7 @@ use Rattle.std.proofs.lemmas.Bool.{eqb-true}
 use Rattle.std.proofs.lemmas.List.{length-map}
 use Rattle.std.specs.List.{AllByRecursion}
 use Rattle.std.specs.Str.{bytes_eq}
+use Rattle.ddf_lemmas.proofs.Lists.{all_filter, filter_pass}
 use Rattle.ddf_header.specs.declared.geometry.Geometry.{Geometry}
 use Rattle.ddf_header.specs.Geometry.{IsSound}
 use Rattle.ddf_config.specs.Configuration.{Configuration}
@@ -16,14 +17,14 @@ use Rattle.ddf_rewrite.specs.Before.{before}
 use Rattle.ddf_rewrite.specs.Hold.{AreDisks, AreHeld, IsHoldable}
 use Rattle.ddf_rewrite.proofs.Leaders.{leader_disks}
 use Rattle.ddf_rewrite.proofs.Whole.{read_is_holdable}
+use Rattle.ddf_rewrite.proofs.Premises.{is_sound}
 use Rattle.ddf_seats.specs.declared.seated.Seated.{Seated}
 use Rattle.ddf_assembly.specs.Assembled.{IsAssembledGroup}
 use Rattle.ddf_seats.specs.Changing.{record_length, AreCopies, CanBeHeldOn, CanBeLed, HaveLength}
 use Rattle.ddf_seats.specs.Group.{GroupValue}
 use Rattle.ddf_seats.specs.Leading.{leading, leading_disks, leading_views, leads, some}
 use Rattle.ddf_seats.specs.Seated.{seated, views_in}
-use Rattle.ddf_seats.proofs.RecordsHeld.{held_under, leaders_all, sound_of, views_are}
-use Rattle.ddf_seats.proofs.Lists.{filter_have, filter_pass}
+use Rattle.ddf_seats.proofs.RecordsHeld.{held_under, leaders_all, views_are}
 
 -- A leader is of the group and of its sequence number, and lists its own disk.
 pub record IsLeading (config : Configuration) (disk : Seated) : Type 0 where
@@ -46,11 +47,11 @@ module _ (group : GroupValue) (is : IsAssembledGroup group) where
 
   pub leading_copies : AreCopies (leading_disks group)
   unfolding leading_disks
-  leading_copies = filter_have (λ disk. CanBeCopy disk.copy) (leads group.config) disks is.are_copies
+  leading_copies = all_filter (λ disk. CanBeCopy disk.copy) (leads group.config) disks is.are_copies
 
   pub leading_length : (sectors : ℕ) → HaveLength sectors disks → HaveLength sectors (leading_disks group)
   unfolding leading_disks
-  leading_length sectors same = filter_have (λ disk. record_length disk ≡ sectors) (leads group.config) disks same
+  leading_length sectors same = all_filter (λ disk. record_length disk ≡ sectors) (leads group.config) disks same
 
   leading_lead : AllByRecursion (λ disk. leads group.config disk ≡ true) (leading_disks group)
   unfolding leading_disks
@@ -63,7 +64,7 @@ module _ (group : GroupValue) (is : IsAssembledGroup group) where
       each : (some_disks : List Seated) → AreCopies some_disks → AllByRecursion (λ disk. HaveLength (record_length disk) disks → AreHeld disk.copy.header.geometry (leading group)) some_disks
       each [] are = tt
       each (disk ∷ others) are = (
-        λ same. held_under disk.copy.header.geometry (leading_disks group) (sound_of disk.copy are.0) leading_copies (leading_length (record_length disk) same),
+        λ same. held_under disk.copy.header.geometry (leading_disks group) (is_sound disk.copy are.0) leading_copies (leading_length (record_length disk) same),
         each others are.1,
       )
 
@@ -108,7 +109,7 @@ module _ (group : GroupValue) (is : IsAssembledGroup group) where
       → IsHoldable disk.copy.header.geometry.max_members group.config
   held_by [] e disk is_copy seats same =
       let lead : some {X = Seated} [] ≡ true = ap (λ (some_disks : List Seated). some some_disks) (sym e) ∙ is.some_lead seats in absurd cc
-  held_by (first ∷ rest) e disk is_copy seats same = config_held first rest e disk.copy.header.geometry (sound_of disk.copy is_copy) same
+  held_by (first ∷ rest) e disk is_copy seats same = config_held first rest e disk.copy.header.geometry (is_sound disk.copy is_copy) same
 
   -- The copies of the disks can hold the configuration, where their records have one length.
   pub held_on : CanBeHeldOn group.config disks

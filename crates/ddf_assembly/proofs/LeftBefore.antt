@@ -1,11 +1,12 @@
 -- A settled group that was assembled: its leaders, its claims, and what its slots list.
-use Rattle.std.proofs.Common.{◌≡◌, ℕ, zero, suc, ◌<◌, ◌≤◌, Bool, true, false, not, ◌||◌, nat_le, List, [], ◌∷◌, length, map, Option, Some, None, Result, Ok, Err, refl, ap, sym, ◌∙◌, subst, arith, zero-add}
-use Rattle.std.proofs.lemmas.Bool.{and_parts, false≢true, not-false}
+use Rattle.std.proofs.Common.{◌≡◌, ℕ, zero, suc, ◌<◌, ◌≤◌, true, false, not, ◌||◌, nat_le, List, [], ◌∷◌, length, map, Option, Some, None, Result, Ok, Err, refl, ap, sym, ◌∙◌, subst, arith, zero-add}
+use Rattle.std.proofs.lemmas.Bool.{and_parts, false≢true, not-false, cond-true}
 use Rattle.std.proofs.lemmas.Option.{slice_get-map}
-use Rattle.std.specs.Prelude.{filter, filter_map, option_map, slice_get, unwrap_or}
+use Rattle.std.specs.Prelude.{filter_map, option_map, slice_get, unwrap_or}
 use Rattle.std.specs.List.{AllByRecursion}
 use Rattle.std.specs.Option.{option_and_then, option_map_or}
 use Rattle.std.specs.Str.{bytes_eq}
+use Rattle.ddf_lemmas.proofs.Lists.{all_fail, all_weaken, bytes_same, filter_pass, filtered_passes, found_place, in_map, list_all_read}
 use Rattle.ddf_copy.specs.declared.copy.DiskCopy.{DiskCopy}
 use Rattle.ddf_copy.specs.declared.newest_copy.Newest.{Newest}
 use Rattle.ddf_copy.specs.declared.newest_copy.Newest.TheVariants as newests
@@ -15,8 +16,6 @@ use Rattle.ddf_view.specs.Reading.{read}
 use Rattle.ddf_view.specs.Shows.{shows}
 use Rattle.ddf_view.specs.View.{View, lists_itself, view_of}
 use Rattle.ddf_view.proofs.Agreement.{shown_from}
-use Rattle.ddf_view.proofs.Finds.{when_false, when_true}
-use Rattle.ddf_view.proofs.Tests.{all_map, bytes_same}
 use Rattle.ddf_group.specs.declared.answer.Assembly.{Assembly}
 use Rattle.ddf_group.specs.declared.shown.Shown.{Shown}
 use Rattle.ddf_group.specs.declared.shown.Shown.TheVariants.{Level, Nothing}
@@ -24,7 +23,7 @@ use Rattle.ddf_group.specs.Assembled.{absent, assembled_as, assembled_group, con
 use Rattle.ddf_group.specs.Conflicts.{contradiction, sequence_of}
 use Rattle.ddf_group.specs.Shown.{shown_of}
 use Rattle.ddf_group.specs.Slots.{claimed, claims, claims_by, group_shown, leaders, lists_disk_of, leading_view, leads, none_later, numbers, sequence_in, shows_group, slot_at, view_in}
-use Rattle.ddf_rewrite.proofs.Lists.{all_at, found_place, get_range, list_all_get, map_get}
+use Rattle.ddf_rewrite.proofs.Lists.{all_at, get_range}
 use Rattle.ddf_seats.specs.declared.seated.Seated.{Seated}
 use Rattle.ddf_seats.specs.Group.{GroupValue, seat_of}
 use Rattle.ddf_assembly.specs.Group.{group_as, group_or_fault}
@@ -34,35 +33,9 @@ use Rattle.ddf_assembly.specs.Settled.{IsSettledGroup}
 use Rattle.ddf_assembly.proofs.LeftMembers.{AreApart, IsCurrentIn, current_from, lists_from}
 use Rattle.ddf_assembly.proofs.Named.{shown_named}
 use Rattle.ddf_assembly.proofs.SettledLeaders.{leaders_claimed, none_claimed}
-use Rattle.ddf_assembly.proofs.SettledLists.{all_among, all_fail, find_kept, find_none}
+use Rattle.ddf_assembly.proofs.SettledLists.{all_among, find_kept, find_none}
 use Rattle.ddf_assembly.proofs.LevelDisks.{AreLevelOn, disks_are, level_disks, seats_are}
 use Rattle.ddf_assembly.proofs.SettledSeats.{IsLevelOn, level_on}
-
--- ---- lists
-
--- What passes a test is among the items that it keeps.
-pub kept_at : {X : Type 0} (test : X → Bool) (xs : List X) (i : ℕ) (x : X) → slice_get xs i ≡ Some x → test x ≡ true → (j : ℕ) × (slice_get (filter test xs) j ≡ Some x)
-kept_at test [] i x at passes = absurd cc
-kept_at {X = X} test (y ∷ ys) i x at passes = by (λ k later. kept_at test ys k x later passes) i at (test y) refl
-  where
-    in_list : {l m : List X} → l ≡ m → (j : ℕ) → slice_get m j ≡ Some x → slice_get l j ≡ Some x
-    in_list same j here = ap (λ (list : List X). slice_get list j) same ∙ here
-
-    by : ((k : ℕ) → slice_get ys k ≡ Some x → (j : ℕ) × (slice_get (filter test ys) j ≡ Some x)) → (k : ℕ) → slice_get (y ∷ ys) k ≡ Some x → (b : Bool) → test y ≡ b
-        → (j : ℕ) × (slice_get (filter test (y ∷ ys)) j ≡ Some x)
-    by rest zero at true e = (0, in_list (when_true (test y) (y ∷ filter test ys) (filter test ys) e) 0 at)
-    by rest zero at false e = let same : y ≡ x = cc in absurd (false≢true (sym e ∙ ap test same ∙ passes))
-    by rest (suc k) at true e = let later = rest k at in (suc later.0, in_list (when_true (test y) (y ∷ filter test ys) (filter test ys) e) (suc later.0) later.1)
-    by rest (suc k) at false e = let later = rest k at in (later.0, in_list (when_false (test y) (y ∷ filter test ys) (filter test ys) e) later.0 later.1)
-
--- Each item that a test keeps passes it.
-pub all_pass : {X : Type 0} (test : X → Bool) (xs : List X) → AllByRecursion (λ x. test x ≡ true) (filter test xs)
-all_pass test [] = tt
-all_pass {X = X} test (x ∷ xs) = by (all_pass test xs) (test x) refl
-  where
-    by : AllByRecursion (λ y. test y ≡ true) (filter test xs) → (b : Bool) → test x ≡ b → AllByRecursion (λ y. test y ≡ true) (filter test (x ∷ xs))
-    by rest true e = subst (λ (some : List X). AllByRecursion (λ y. test y ≡ true) some) (sym (when_true (test x) (x ∷ filter test xs) (filter test xs) e)) (e, rest)
-    by rest false e = subst (λ (some : List X). AllByRecursion (λ y. test y ≡ true) some) (sym (when_false (test x) (x ∷ filter test xs) (filter test xs) e)) rest
 
 -- ---- slots
 
@@ -103,14 +76,14 @@ claims_within slots group slot h = by (view_in (slot_at slots slot)) refl
 -- What a slot shows whose copies show a configuration, where its disk is a current member.
 pub group_own : (config : Configuration) (view : View) → shows config view ≡ true → AreApart config.members → IsCurrentIn config.members view.guid view.reference → group_shown (Level view) ≡ Some config.group
 group_own config view shown apart current =
-    ap (option_map (λ (one : View). one.group)) (when_true (lists_itself view) (Some view) None (lists_from config view view.guid view.reference shown apart current))
+    ap (option_map (λ (one : View). one.group)) (cond-true (lists_itself view) (Some view) None (lists_from config view view.guid view.reference shown apart current))
     ∙ ap (λ (group : List ℕ). Some group) (shown_from config view shown).group
 
 -- A slot shows the group of a configuration that its copies show, where its disk is a current member.
 pub shows_own : (config : Configuration) (view : View) → shows config view ≡ true → AreApart config.members → IsCurrentIn config.members view.guid view.reference → shows_group config.group (Level view) ≡ true
 shows_own config view shown apart current =
     let itself : lists_itself view ≡ true = lists_from config view view.guid view.reference shown apart current in
-    ap (λ (found : Option View). option_map_or (bytes_eq config.group) (option_map (λ (one : View). one.group) found) false) (when_true (lists_itself view) (Some view) None itself)
+    ap (λ (found : Option View). option_map_or (bytes_eq config.group) (option_map (λ (one : View). one.group) found) false) (cond-true (lists_itself view) (Some view) None itself)
     ∙ ap (λ (group : List ℕ). bytes_eq config.group group) (shown_from config view shown).group ∙ bytes_same config.group
 
 -- ---- a group that was found
@@ -179,7 +152,7 @@ module _ (group : GroupValue) (are : AreNewest group.newest) (settled : IsSettle
   -- Each slot that it claims is level.
   level : AreLevelOn group (claimed slots guid)
   level =
-      all_map (λ (slot : ℕ). not (has_config group.config (slot_at slots slot)) ≡ false) (IsLevelOn group)
+      all_weaken (λ (slot : ℕ). not (has_config group.config (slot_at slots slot)) ≡ false) (IsLevelOn group)
       (λ slot kept. level_on group are slot (not-false (has_config group.config (slot_at slots slot)) kept)) (claimed slots guid)
       (all_fail (λ (slot : ℕ). not (has_config group.config (slot_at slots slot))) (claimed slots guid) none_lag)
 
@@ -192,7 +165,7 @@ module _ (group : GroupValue) (are : AreNewest group.newest) (settled : IsSettle
   -- Its disks are on the slots that it claims.
   pub disks_claimed : AllByRecursion (IsClaimedDisk group guid) (seated group)
   unfolding claimed
-  disks_claimed = subst (λ (disks : List Seated). AllByRecursion (IsClaimedDisk group guid) disks) (sym disks_are_level) (claimed_disks group guid (claimed slots guid) level (all_pass (claims slots guid) (numbers slots)))
+  disks_claimed = subst (λ (disks : List Seated). AllByRecursion (IsClaimedDisk group guid) disks) (sym disks_are_level) (claimed_disks group guid (claimed slots guid) level (filter_pass (claims slots guid) (numbers slots)))
 
   pub slots_claimed : slots_in (seated group) ≡ claimed slots guid
   slots_claimed = ap slots_in disks_are_level ∙ slots_of_disks group guid (claimed slots guid) level
@@ -203,9 +176,9 @@ module _ (group : GroupValue) (are : AreNewest group.newest) (settled : IsSettle
   claimed_disk slot below h =
       let there = get_range 0 (length slots) slot below in
       let number : slice_get (numbers slots) slot ≡ Some slot = there.2 ∙ ap (λ (n : ℕ). Some n) (there.1 ∙ zero-add slot) in
-      let kept = kept_at (claims slots guid) (numbers slots) slot slot number h in
+      let kept = filtered_passes (claims slots guid) (numbers slots) slot slot number h in
       let also : slice_get (slots_in (seated group)) kept.0 ≡ Some slot = ap (λ (some : List ℕ). slice_get some kept.0) slots_claimed ∙ kept.1 in
-      let disk = map_get (λ (one : Seated). one.seat.slot) (seated group) kept.0 slot also in
+      let disk = in_map (λ (one : Seated). one.seat.slot) (seated group) kept.0 slot also in
       (kept.0, disk.0, disk.1, disk.2)
 
   -- ---- its leaders
@@ -234,7 +207,7 @@ module _ (group : GroupValue) (are : AreNewest group.newest) (settled : IsSettle
       let below = shows_within guid slots slot (and_parts (shows_group guid (slot_at slots slot)) (none_later slots guid (sequence_in (slot_at slots slot))) h).0 in
       let there = get_range 0 (length slots) slot below in
       let number : slice_get (numbers slots) slot ≡ Some slot = there.2 ∙ ap (λ (n : ℕ). Some n) (there.1 ∙ zero-add slot) in
-      let place = kept_at (leads slots guid) (numbers slots) slot slot number h in
+      let place = filtered_passes (leads slots guid) (numbers slots) slot slot number h in
       all_at (λ (one : ℕ). claims slots guid one ≡ true) (leaders slots guid) place.0 slot (leaders_claimed slots (shown_named group.newest are) guid found.not_contradicted) place.1
 
   -- The leading view, which shows the configuration.
@@ -285,6 +258,6 @@ module _ (group : GroupValue) (are : AreNewest group.newest) (settled : IsSettle
   not_ahead slot all shown =
       let there = get_range 0 (length slots) slot (shows_within guid slots slot shown) in
       let number : slice_get (numbers slots) slot ≡ Some slot = there.2 ∙ ap (λ (n : ℕ). Some n) (there.1 ∙ zero-add slot) in
-      let passes = list_all_get (λ n. not (shows_group guid (slot_at slots n)) || nat_le (sequence_in (slot_at slots n)) group.config.sequence) (numbers slots) slot slot all number in
+      let passes = list_all_read (λ n. not (shows_group guid (slot_at slots n)) || nat_le (sequence_in (slot_at slots n)) group.config.sequence) (numbers slots) slot slot all number in
       let within : nat_le (sequence_in (slot_at slots slot)) group.config.sequence ≡ true = sym (ap (λ b. not b || nat_le (sequence_in (slot_at slots slot)) group.config.sequence) shown) ∙ passes in
       grind (arith, within)

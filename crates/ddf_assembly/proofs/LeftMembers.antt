@@ -1,11 +1,13 @@
 -- The current members of a configuration, before and after a change, and in views that show it.
 use Rattle.std.proofs.Common.{◌≡◌, ℕ, zero, suc, Bool, true, false, not, ◌&&◌, eqb, nat_eq, cond, List, [], ◌∷◌, Option, Some, None, refl, ap, sym, ◌∙◌}
 use Rattle.std.proofs.lemmas.Bool.{and_parts, eq-eqb, eqb-true, false≢true}
-use Rattle.std.specs.Prelude.{find, slice_get}
+use Rattle.std.specs.Prelude.{slice_get}
 use Rattle.std.specs.Map.{lookup}
 use Rattle.std.specs.Option.{option_map_or}
 use Rattle.std.specs.Str.{bytes_eq}
 use Rattle.std.specs.Cmp.Lexicographic.{pointwise}
+use Rattle.ddf_lemmas.proofs.Lists.{bytes_same, found_place, mapped_at, some_found}
+use Rattle.ddf_lemmas.proofs.Options.{value_there}
 use Rattle.ddf_tables.specs.declared.disks.DiskEntry.{DiskEntry}
 use Rattle.ddf_config.specs.declared.member.Member.{Member}
 use Rattle.ddf_config.specs.Configuration.{Configuration}
@@ -14,14 +16,12 @@ use Rattle.ddf_config.specs.Members.{is_current}
 use Rattle.ddf_plan.specs.declared.change.Change.{Change}
 use Rattle.ddf_plan.specs.Members.{member_after, members_after}
 use Rattle.ddf_plan.proofs.Kept.{missing_stays}
-use Rattle.ddf_rewrite.proofs.Lists.{found_place, get_map}
 use Rattle.ddf_view.specs.Reading.{member_entry_in, member_in, read}
 use Rattle.ddf_view.specs.Shows.{gives_member, same_flag, shows}
 use Rattle.ddf_view.specs.View.{View, entry_in, is_missing, lists_current, lists_missing}
 use Rattle.ddf_view.proofs.Agreement.{shown_from}
-use Rattle.ddf_view.proofs.Finds.{when_false, when_true}
 use Rattle.ddf_view.proofs.Shown.{flag_same}
-use Rattle.ddf_view.proofs.Tests.{and_four, bytes_same, same_bytes}
+use Rattle.ddf_view.proofs.Tests.{and_four, same_bytes}
 
 -- ---- a member
 
@@ -57,16 +57,6 @@ pair_left m (x ∷ xs) (y' ∷ ys) h zero y at =
     (x, refl, ap (λ z. m x z) (sym same) ∙ (and_parts (m x y') (pointwise m xs ys) h).0)
 pair_left m (x ∷ xs) (y' ∷ ys) h (suc i) y at = pair_left m xs ys (and_parts (m x y') (pointwise m xs ys) h).1 i y at
 
--- What passes a test in a list is found there, or something before it.
-find_some : {X : Type 0} (test : X → Bool) (xs : List X) (i : ℕ) (x : X) → slice_get xs i ≡ Some x → test x ≡ true → (y : X) × (find test xs ≡ Some y)
-find_some test [] i x at passes = absurd cc
-find_some {X = X} test (y ∷ ys) i x at passes = by (λ k later. find_some test ys k x later passes) i at (test y) refl
-  where
-    by : ((k : ℕ) → slice_get ys k ≡ Some x → (z : X) × (find test ys ≡ Some z)) → (k : ℕ) → slice_get (y ∷ ys) k ≡ Some x → (b : Bool) → test y ≡ b → (z : X) × (find test (y ∷ ys) ≡ Some z)
-    by rest k at true e = (y, when_true (test y) (Some y) (find test ys) e)
-    by rest zero at false e = let same : y ≡ x = cc in absurd (false≢true (sym e ∙ ap test same ∙ passes))
-    by rest (suc k) at false e = let later = rest k at in (later.0, when_false (test y) (Some y) (find test ys) e ∙ later.1)
-
 -- What an entry and its member have in common.
 record AreAlike (disk : DiskEntry) (entry : ℕ × Member) : Type 0 where
   same_reference : disk.reference ≡ entry.0
@@ -77,11 +67,6 @@ are_alike : (disk : DiskEntry) (entry : ℕ × Member) → gives_member disk ent
 are_alike disk entry h =
     let given = and_four (eqb disk.reference entry.0) (bytes_eq disk.guid entry.1.guid) (eqb disk.size entry.1.size) (same_flag (is_missing disk) entry.1.missing) h in
     record { same_reference = eqb-true disk.reference entry.0 given.0; same_guid = same_bytes disk.guid entry.1.guid given.1; same_missing = flag_same (is_missing disk) entry.1.missing given.3 }
-
--- What is there of a value passes.
-value_there : {X : Type 0} (test : X → Bool) (o : Option X) → option_map_or test o false ≡ true → (x : X) × (o ≡ Some x) × (test x ≡ true)
-value_there test None passes = absurd (false≢true passes)
-value_there test (Some x) passes = (x, refl, passes)
 
 -- An entry is that of a disk.
 abbrev is_entry : (guid : List ℕ) → (reference : ℕ) → DiskEntry → Bool
@@ -121,7 +106,7 @@ read_current group sequence first rest guid reference listed =
     record {
       place = place.0;
       member = member;
-      at = get_map (member_entry_in (first ∷ rest)) first.disks place.0 there.0 place.1 ∙ ap (λ (n : ℕ). Some (n, member)) (eqb-true there.0.reference reference own.0);
+      at = mapped_at (member_entry_in (first ∷ rest)) first.disks place.0 there.0 place.1 ∙ ap (λ (n : ℕ). Some (n, member)) (eqb-true there.0.reference reference own.0);
       same_guid = same_bytes there.0.guid guid own.1;
       is_here = not_true (is_missing there.0) there.2;
     }
@@ -140,7 +125,7 @@ module _ (config : Configuration) (view : View) (guid : List ℕ) (reference : �
       let passes : is_entry guid reference pair.0 ≡ true =
       ap (λ b. b && bytes_eq pair.0.guid guid) (eq-eqb pair.0.reference reference alike.same_reference)
       ∙ ap (λ (g : List ℕ). bytes_eq g guid) (alike.same_guid ∙ current.same_guid) ∙ bytes_same guid in
-      let found = find_some (is_entry guid reference) view.disks current.place pair.0 pair.1 passes in
+      let found = some_found (is_entry guid reference) view.disks current.place pair.0 pair.1 passes in
       let place = found_place (is_entry guid reference) view.disks found.0 found.1 in
       let own = and_parts (eqb found.0.reference reference) (bytes_eq found.0.guid guid) place.2 in
       let other = pair_right gives_member view.disks config.members members place.0 found.0 place.1 in

@@ -1,22 +1,22 @@
 -- Views that don't differ list the same disks as current members.
 use Rattle.std.proofs.Common.{◌≡◌, ℕ, ◌+◌, Bool, true, false, not, ◌&&◌, eqb, nat_eq, List, [], ◌∷◌, ◌++◌, map, Option, Some, None, refl, ap, sym, ◌∙◌}
-use Rattle.std.proofs.lemmas.Bool.{and_parts, eqb-true, false≢true, not-false}
+use Rattle.std.proofs.lemmas.Bool.{and_parts, eqb-true, false≢true, not-false, cond-false, cond-true}
 use Rattle.std.specs.Prelude.{find, slice_get, option_map}
 use Rattle.std.specs.List.{IsDistinct, enumerate_from}
 use Rattle.std.specs.Option.{option_eq, option_map_or}
 use Rattle.std.specs.Ordering.{nat_cmp}
 use Rattle.std.specs.Str.{bytes_eq}
 use Rattle.std.specs.Cmp.Lexicographic.{slice_cmp}
-use Rattle.std.specs.declared.cmp.Ordering.{Ordering}
-use Rattle.ddf_bytes.proofs.Nones.{none_first, none_map}
+use Rattle.ddf_lemmas.proofs.Lists.{all_fail, bytes_same, found_place, in_second, mapped_at}
+use Rattle.ddf_lemmas.proofs.Options.{none_from_map}
+use Rattle.ddf_bytes.proofs.Nones.{none_first}
 use Rattle.ddf_tables.specs.declared.disks.DiskEntry.{DiskEntry}
 use Rattle.ddf_view.specs.View.{View, entry_in, is_missing, lists_current}
 use Rattle.ddf_view.specs.Differ.{difference, differing_arrays, differing_disks, differing_elements, disk_differs, element_difference, key_cmp, least, numbered_disk, same_disk, told_kind}
 use Rattle.ddf_view.specs.declared.difference.Difference.TheVariants as differences
-use Rattle.ddf_view.proofs.Finds.{when_false, when_true}
-use Rattle.ddf_view.proofs.Tests.{and_five, bytes_same, same_bytes}
-use Rattle.ddf_rewrite.proofs.Lists.{all_at, found_place, get_map}
-use Rattle.ddf_assembly.proofs.SettledLists.{all_fail, get_behind}
+use Rattle.ddf_view.proofs.Tests.{and_five, same_bytes}
+use Rattle.ddf_view.proofs.Common.{least_none}
+use Rattle.ddf_rewrite.proofs.Lists.{all_at}
 
 -- ---- entries and their places
 
@@ -38,14 +38,14 @@ entry_placed guid reference n (disk ∷ disks) pair h same = go (entry_placed gu
         → (b : Bool) → eqb disk.reference reference ≡ b → find (names_both guid reference) (disk ∷ disks) ≡ Some pair.1
     go later true e =
         let first : ℕ × DiskEntry = (n, disk) in
-        let got : Some first ≡ Some pair = sym (when_true (eqb disk.reference reference) (Some first) (find (names reference) (enumerate_from (n + 1) disks)) e) ∙ h in
+        let got : Some first ≡ Some pair = sym (cond-true (eqb disk.reference reference) (Some first) (find (names reference) (enumerate_from (n + 1) disks)) e) ∙ h in
         let is : first ≡ pair = cc in
         let own : disk ≡ pair.1 = ap (λ (one : ℕ × DiskEntry). one.1) is in
         let has : bytes_eq disk.guid guid ≡ true = ap (λ (one : DiskEntry). bytes_eq one.guid guid) own ∙ same in
         rw (e, has) (ap (λ (one : DiskEntry). Some one) own)
     go later false e =
         let first : ℕ × DiskEntry = (n, disk) in
-        let rest = later (sym (when_false (eqb disk.reference reference) (Some first) (find (names reference) (enumerate_from (n + 1) disks)) e) ∙ h) same in
+        let rest = later (sym (cond-false (eqb disk.reference reference) (Some first) (find (names reference) (enumerate_from (n + 1) disks)) e) ∙ h) same in
         rw e rest
 
 -- An entry that is found has the reference and the GUID.
@@ -67,29 +67,24 @@ place_entered guid reference n (disk ∷ disks) entry apart h = go (place_entere
         → (b : Bool) → eqb disk.reference reference ≡ b → (c : Bool) → bytes_eq disk.guid guid ≡ c → (place : ℕ) × (find (names reference) (enumerate_from n (disk ∷ disks)) ≡ Some (place, entry))
     go later true e true f =
         let both : names_both guid reference disk ≡ true = rw (e, f) refl in
-        let got : Some disk ≡ Some entry = sym (when_true (names_both guid reference disk) (Some disk) (find (names_both guid reference) disks) both) ∙ h in
+        let got : Some disk ≡ Some entry = sym (cond-true (names_both guid reference disk) (Some disk) (find (names_both guid reference) disks) both) ∙ h in
         let is : disk ≡ entry = cc in
         (n, rw e (ap (λ (one : DiskEntry). Some (n, one)) is))
     go later true e false f =
         let neither : names_both guid reference disk ≡ false = rw (e, f) refl in
-        let rest : find (names_both guid reference) disks ≡ Some entry = sym (when_false (names_both guid reference disk) (Some disk) (find (names_both guid reference) disks) neither) ∙ h in
+        let rest : find (names_both guid reference) disks ≡ Some entry = sym (cond-false (names_both guid reference disk) (Some disk) (find (names_both guid reference) disks) neither) ∙ h in
         let found = found_names guid reference disks entry rest in
         let apart_here = all_at (λ (other : ℕ). nat_eq disk.reference other ≡ false) (map (λ (one : DiskEntry). one.reference) disks) found.0 entry.reference apart.0
-        (get_map (λ (one : DiskEntry). one.reference) disks found.0 entry found.1) in
+        (mapped_at (λ (one : DiskEntry). one.reference) disks found.0 entry found.1) in
         let twice : eqb disk.reference entry.reference ≡ true = ap (eqb disk.reference) found.2 ∙ e in
         absurd (false≢true (sym apart_here ∙ twice))
     go later false e c f =
         let neither : names_both guid reference disk ≡ false = rw e refl in
         let first : ℕ × DiskEntry = (n, disk) in
-        let rest = later (sym (when_false (names_both guid reference disk) (Some disk) (find (names_both guid reference) disks) neither) ∙ h) in
-        (rest.0, when_false (eqb disk.reference reference) (Some first) (find (names reference) (enumerate_from (n + 1) disks)) e ∙ rest.1)
+        let rest = later (sym (cond-false (names_both guid reference disk) (Some disk) (find (names_both guid reference) disks) neither) ∙ h) in
+        (rest.0, cond-false (eqb disk.reference reference) (Some first) (find (names reference) (enumerate_from (n + 1) disks)) e ∙ rest.1)
 
 -- ---- no difference
-
--- A list without a least item is empty.
-none_least : {X : Type 0} (compare : X → X → Ordering) (items : List X) → least compare items ≡ None → items ≡ []
-none_least compare [] h = refl
-none_least compare (item ∷ items) h = absurd cc
 
 -- Two views that don't differ have the same entry of each disk of the second.
 same_entry : (one other : View) → difference one other ≡ None → (i : ℕ) (entry : DiskEntry) → slice_get other.disks i ≡ Some entry
@@ -101,11 +96,11 @@ same_entry one other none i entry at =
     ∷ option_map differences.Array (least (slice_cmp nat_cmp) (differing_arrays one.arrays other.arrays))
     ∷ option_map element_difference (least key_cmp (differing_elements one.elements other.elements))
     ∷ []) none in
-    let none_differs = none_least nat_cmp (differing_disks one.disks other.disks) (none_map differences.Disk (least nat_cmp (differing_disks one.disks other.disks)) parts.0) in
+    let none_differs = least_none nat_cmp (differing_disks one.disks other.disks) (none_from_map differences.Disk (least nat_cmp (differing_disks one.disks other.disks)) parts.0) in
     let all = all_fail (disk_differs one.disks other.disks) (map (λ (disk : DiskEntry). disk.reference) (one.disks ++ other.disks)) none_differs in
-    let place = get_behind one.disks other.disks i entry at in
+    let place = in_second one.disks other.disks i entry at in
     all_at (λ (reference : ℕ). disk_differs one.disks other.disks reference ≡ false) (map (λ (disk : DiskEntry). disk.reference) (one.disks ++ other.disks)) place.0 entry.reference all
-    (get_map (λ (disk : DiskEntry). disk.reference) (one.disks ++ other.disks) place.0 entry place.1)
+    (mapped_at (λ (disk : DiskEntry). disk.reference) (one.disks ++ other.disks) place.0 entry place.1)
 
 -- What is the same as an entry has its GUID and its state.
 same_of : (found : Option (ℕ × DiskEntry)) (pair : ℕ × DiskEntry) → not (option_eq same_disk found (Some pair)) ≡ false

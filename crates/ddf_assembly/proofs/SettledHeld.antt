@@ -19,18 +19,18 @@ use Rattle.ddf_assembly.specs.Slots.{IsAssembled, newest_from, newest_or}
 -- ---- what is read
 
 -- A newest copy stands under an anchor.
-held_under : {D : Type 0} (disks : BayState D) (slot : ℕ) (newest : Newest) (anchored : Result Header AnchorFault)
+pub held_under : {D : Type 0} (disks : BayState D) (slot : ℕ) (newest : Newest) (anchored : Result Header AnchorFault)
     → anchor_at (size_of disks slot) (disks.held slot) ≡ anchored → newest_under (size_of disks slot) (disks.held slot) anchored ≡ Some newest → IsHeldOn disks slot newest
 held_under disks slot newest (Ok anchor) is h = record { anchor = anchor; is_anchored = is; is_newest = cc }
 held_under disks slot newest (Err fault) is h = absurd cc
 
 -- A slot that isn't left out holds what is read of it.
-held_or : {D : Type 0} (disks : BayState D) (slot : ℕ) (out : Bool) (newest : Newest) → newest_or disks slot out ≡ Some newest → IsHeldOn disks slot newest
+pub held_or : {D : Type 0} (disks : BayState D) (slot : ℕ) (out : Bool) (newest : Newest) → newest_or disks slot out ≡ Some newest → IsHeldOn disks slot newest
 held_or disks slot true newest h = absurd cc
 held_or disks slot false newest h = held_under disks slot newest (anchor_at (size_of disks slot) (disks.held slot)) refl h
 
 -- So does each of several slots.
-held_from : {D : Type 0} (disks : BayState D) (first : ℕ) (left : List Bool) (place : ℕ) (newest : Newest)
+pub held_from : {D : Type 0} (disks : BayState D) (first : ℕ) (left : List Bool) (place : ℕ) (newest : Newest)
     → slice_get (newest_from disks first left) place ≡ Some (Some newest) → IsHeldOn disks (first + place) newest
 held_from disks first [] place newest h = absurd cc
 held_from disks first (out ∷ left) zero newest h =

@@ -1,15 +1,15 @@
 -- The leaders of a group that nothing contradicts are among the slots that it claims.
-use Rattle.std.proofs.Common.{◌≡◌, ℕ, zero, suc, Bool, true, false, List, [], ◌∷◌, Option, Some, None, refl, ap, sym, ◌∙◌, subst}
-use Rattle.std.proofs.lemmas.Bool.{and_parts, false≢true}
+use Rattle.std.proofs.Common.{◌≡◌, ℕ, Bool, true, false, List, [], ◌∷◌, Option, Some, None, refl, ap, sym, ◌∙◌, subst}
+use Rattle.std.proofs.lemmas.Bool.{and_parts, false≢true, cond-false, cond-true}
 use Rattle.std.specs.Prelude.{IfSome, find, option_map}
 use Rattle.std.specs.List.{AllByRecursion}
 use Rattle.std.specs.Option.{option_and_then, option_map_or}
 use Rattle.std.specs.Str.{bytes_eq}
-use Rattle.ddf_bytes.proofs.Nones.{none_first, none_map}
+use Rattle.ddf_lemmas.proofs.Options.{none_from_map}
+use Rattle.ddf_bytes.proofs.Nones.{none_first}
 use Rattle.ddf_view.specs.Differ.{difference}
 use Rattle.ddf_view.specs.Readable.{DoNamesDiffer}
 use Rattle.ddf_view.specs.View.{View, lists_current, lists_itself}
-use Rattle.ddf_view.proofs.Finds.{when_false, when_true}
 use Rattle.ddf_group.specs.declared.shown.Shown.{Shown}
 use Rattle.ddf_group.specs.declared.shown.Shown.TheVariants.{Nothing, One, Level, TwoDiffer}
 use Rattle.ddf_group.specs.declared.answer.Assembly.{Assembly}
@@ -18,6 +18,7 @@ use Rattle.ddf_group.specs.Slots.{claims, claims_by, leaders, leading_view, lead
 use Rattle.ddf_group.specs.Conflicts.{contradiction, differ_at, differ_of, difference_of, differing, has_two, in_conflict, leads_with_two, split_in, twins, two_copies}
 use Rattle.ddf_group.specs.Pairs.{first_pair}
 use Rattle.ddf_group.specs.Names.{AreNamed, IsNamed}
+use Rattle.ddf_group.proofs.Named.{named_at}
 use Rattle.ddf_assembly.proofs.SettledDisks.{current_in_both}
 use Rattle.ddf_assembly.proofs.SettledLists.{all_kept, find_kept, find_none, none_pair}
 
@@ -37,10 +38,10 @@ one_view group view h = by (lists_itself view) refl
   where
     by : (b : Bool) → lists_itself view ≡ b → (lists_itself view ≡ true) × (bytes_eq group view.group ≡ true)
     by true e =
-        let found : find lists_itself (view ∷ []) ≡ Some view = when_true (lists_itself view) (Some view) None e in
+        let found : find lists_itself (view ∷ []) ≡ Some view = cond-true (lists_itself view) (Some view) None e in
         (e, rw found at h)
     by false e =
-        let none : find lists_itself (view ∷ []) ≡ None = when_false (lists_itself view) (Some view) None e in
+        let none : find lists_itself (view ∷ []) ≡ None = cond-false (lists_itself view) (Some view) None e in
         let not_shown : option_map_or (bytes_eq group) (option_map (λ (one : View). one.group) (find lists_itself (view ∷ []))) false ≡ false = rw none refl in
         absurd (false≢true (sym not_shown ∙ h))
 
@@ -50,12 +51,6 @@ has_view group Nothing h alone = absurd cc
 has_view group (One view) h alone = record { view = view; is_shown = refl; is_listed = (one_view group view h).0; in_group = (one_view group view h).1 }
 has_view group (Level view) h alone = record { view = view; is_shown = refl; is_listed = (one_view group view h).0; in_group = (one_view group view h).1 }
 has_view group (TwoDiffer primary secondary) h alone = absurd cc
-
--- The names of each slot's view differ.
-pub named_at : (all : List Shown) → AreNamed all → (slot : ℕ) → IsNamed (slot_at all slot)
-named_at [] are slot = tt
-named_at (shown ∷ all) are zero = are.0
-named_at (shown ∷ all) are (suc slot) = named_at all are.1 slot
 
 module _ (slots : List Shown) (named : AreNamed slots) (group : List ℕ) (none : contradiction slots group ≡ None) where
   -- Each of these slots has one view.
@@ -77,7 +72,7 @@ module _ (slots : List Shown) (named : AreNamed slots) (group : List ℕ) (none 
   have_views =
       all_kept (λ slot. HasView group (slot_at slots slot)) (leads slots group) (λ slot. has_two (slot_at slots slot)) (numbers slots)
       (λ slot is alone. has_view group (slot_at slots slot) (and_parts (shows_group group (slot_at slots slot)) (none_later slots group (sequence_in (slot_at slots slot))) is).0 alone)
-      (none_map (λ slot. in_conflict slots group slot slot differs.Copies) (find (leads_with_two slots group) (numbers slots)) parts.0)
+      (none_from_map (λ slot. in_conflict slots group slot slot differs.Copies) (find (leads_with_two slots group) (numbers slots)) parts.0)
 
   -- The lowest leader gives the leading view.
   pub lowest_leads : (first : ℕ) (rest : List ℕ) → leaders slots group ≡ first ∷ rest → leading_view slots group ≡ view_in (slot_at slots first)
@@ -101,7 +96,7 @@ module _ (slots : List Shown) (named : AreNamed slots) (group : List ℕ) (none 
       → differ_at slots group first slot ≡ None → difference one.view other.view ≡ None
   no_difference first slot one other h =
       let same : difference_of (view_in (slot_at slots first)) (view_in (slot_at slots slot)) ≡ difference one.view other.view = rw (one.is_shown, other.is_shown) refl in
-      sym same ∙ none_map (λ found. in_conflict slots group first slot (differ_of found)) (difference_of (view_in (slot_at slots first)) (view_in (slot_at slots slot))) h
+      sym same ∙ none_from_map (λ found. in_conflict slots group first slot (differ_of found)) (difference_of (view_in (slot_at slots first)) (view_in (slot_at slots slot))) h
 
   -- Those behind the lowest leader are claimed.
   rest_claimed : (first : ℕ) (one : HasView group (slot_at slots first)) → leading_view slots group ≡ Some one.view

@@ -1,32 +1,12 @@
 -- Lists of which the items that pass a test are kept, and what is found in lists.
-use Rattle.std.proofs.Common.{◌≡◌, ℕ, suc, Bool, true, false, ◌&&◌, List, [], ◌∷◌, ◌++◌, Option, Some, None, refl, sym, ap, ◌∙◌, subst}
-use Rattle.std.proofs.lemmas.Bool.{false≢true}
-use Rattle.std.specs.Prelude.{filter, find, slice_get}
+use Rattle.std.proofs.Common.{◌≡◌, Bool, true, false, ◌&&◌, List, [], ◌∷◌, Option, Some, None, refl, sym, ap, ◌∙◌, subst}
+use Rattle.std.proofs.lemmas.Bool.{false≢true, cond-false, cond-true}
+use Rattle.std.specs.Prelude.{filter, find}
 use Rattle.std.specs.List.{AllByRecursion}
 use Rattle.std.specs.Option.{option_or}
-use Rattle.ddf_view.proofs.Finds.{when_false, when_true}
 use Rattle.ddf_group.specs.Pairs.{first_pair, first_with}
 
--- An item of the second of two lists is one of both together.
-pub get_behind : {X : Type 0} (xs ys : List X) (i : ℕ) (y : X) → slice_get ys i ≡ Some y → (k : ℕ) × (slice_get (xs ++ ys) k ≡ Some y)
-get_behind [] ys i y h = (i, h)
-get_behind (x ∷ xs) ys i y h = let rest = get_behind xs ys i y h in (suc rest.0, rest.1)
-
 -- ---- what a test keeps
-
--- Where nothing is kept, each item fails the test.
-pub all_fail : {X : Type 0} (test : X → Bool) (xs : List X) → filter test xs ≡ [] → AllByRecursion (λ x. test x ≡ false) xs
-all_fail test [] h = tt
-all_fail test (x ∷ xs) h = go (all_fail test xs) (test x) refl
-  where
-    go : (filter test xs ≡ [] → AllByRecursion (λ y. test y ≡ false) xs) → (b : Bool) → test x ≡ b → AllByRecursion (λ y. test y ≡ false) (x ∷ xs)
-    go later true e = let kept : x ∷ filter test xs ≡ [] = sym (when_true (test x) (x ∷ filter test xs) (filter test xs) e) ∙ h in absurd cc
-    go later false e = (e, later (sym (when_false (test x) (x ∷ filter test xs) (filter test xs) e) ∙ h))
-
--- Where each item fails the test, nothing is kept.
-pub none_kept : {X : Type 0} (test : X → Bool) (xs : List X) → ((x : X) → test x ≡ false) → filter test xs ≡ []
-none_kept test [] h = refl
-none_kept test (x ∷ xs) h = when_false (test x) (x ∷ filter test xs) (filter test xs) (h x) ∙ none_kept test xs h
 
 -- The first item that is kept is the first that passes.
 pub find_kept : {X : Type 0} (test : X → Bool) (xs : List X) (first : X) (rest : List X) → filter test xs ≡ first ∷ rest → find test xs ≡ Some first
@@ -35,10 +15,10 @@ find_kept {X = X} test (x ∷ xs) first rest h = go (find_kept test xs first res
   where
     go : (filter test xs ≡ first ∷ rest → find test xs ≡ Some first) → (b : Bool) → test x ≡ b → find test (x ∷ xs) ≡ Some first
     go later true e =
-        let kept : x ∷ filter test xs ≡ first ∷ rest = sym (when_true (test x) (x ∷ filter test xs) (filter test xs) e) ∙ h in
+        let kept : x ∷ filter test xs ≡ first ∷ rest = sym (cond-true (test x) (x ∷ filter test xs) (filter test xs) e) ∙ h in
         let same : x ≡ first = cc in
         rw e (ap (λ (y : X). Some y) same)
-    go later false e = rw e (later (sym (when_false (test x) (x ∷ filter test xs) (filter test xs) e) ∙ h))
+    go later false e = rw e (later (sym (cond-false (test x) (x ∷ filter test xs) (filter test xs) e) ∙ h))
 
 -- Where nothing is kept, nothing passes.
 pub find_none : {X : Type 0} (test : X → Bool) (xs : List X) → filter test xs ≡ [] → find test xs ≡ None
@@ -46,8 +26,8 @@ find_none test [] h = refl
 find_none test (x ∷ xs) h = go (find_none test xs) (test x) refl
   where
     go : (filter test xs ≡ [] → find test xs ≡ None) → (b : Bool) → test x ≡ b → find test (x ∷ xs) ≡ None
-    go later true e = let kept : x ∷ filter test xs ≡ [] = sym (when_true (test x) (x ∷ filter test xs) (filter test xs) e) ∙ h in absurd cc
-    go later false e = rw e (later (sym (when_false (test x) (x ∷ filter test xs) (filter test xs) e) ∙ h))
+    go later true e = let kept : x ∷ filter test xs ≡ [] = sym (cond-true (test x) (x ∷ filter test xs) (filter test xs) e) ∙ h in absurd cc
+    go later false e = rw e (later (sym (cond-false (test x) (x ∷ filter test xs) (filter test xs) e) ∙ h))
 
 -- What each item has that passes one test and fails another is had by those that the first keeps, where none passes both.
 pub all_kept : {X : Type 0} (P : X → Type 0) (test other : X → Bool) (xs : List X) → ((x : X) → test x ≡ true → other x ≡ false → P x)
@@ -58,28 +38,28 @@ all_kept P test other (x ∷ xs) has none = go (all_kept P test other xs has) (t
     go : (find (λ y. other y && test y) xs ≡ None → AllByRecursion P (filter test xs)) → (b : Bool) → test x ≡ b → (c : Bool) → other x ≡ c → AllByRecursion P (filter test (x ∷ xs))
     go later true e true f =
         let both : (other x && test x) ≡ true = rw (e, f) refl in
-        let found : Some x ≡ None = sym (when_true (other x && test x) (Some x) (find (λ y. other y && test y) xs) both) ∙ none in
+        let found : Some x ≡ None = sym (cond-true (other x && test x) (Some x) (find (λ y. other y && test y) xs) both) ∙ none in
         absurd cc
     go later true e false f =
         let fails : (other x && test x) ≡ false = rw f refl in
-        let rest = later (sym (when_false (other x && test x) (Some x) (find (λ y. other y && test y) xs) fails) ∙ none) in
+        let rest = later (sym (cond-false (other x && test x) (Some x) (find (λ y. other y && test y) xs) fails) ∙ none) in
         rw e (has x e f, rest)
     go later false e true f =
         let fails : (other x && test x) ≡ false = rw (e, f) refl in
-        let rest = later (sym (when_false (other x && test x) (Some x) (find (λ y. other y && test y) xs) fails) ∙ none) in
+        let rest = later (sym (cond-false (other x && test x) (Some x) (find (λ y. other y && test y) xs) fails) ∙ none) in
         rw e rest
     go later false e false f =
         let fails : (other x && test x) ≡ false = rw f refl in
-        let rest = later (sym (when_false (other x && test x) (Some x) (find (λ y. other y && test y) xs) fails) ∙ none) in
+        let rest = later (sym (cond-false (other x && test x) (Some x) (find (λ y. other y && test y) xs) fails) ∙ none) in
         rw e rest
 
 -- What those have that a test keeps, where it keeps the first.
 with_first : {X : Type 0} (P : X → Type 0) (test : X → Bool) (x : X) (xs : List X) → test x ≡ true → AllByRecursion P (filter test (x ∷ xs)) → AllByRecursion P (x ∷ filter test xs)
-with_first {X = X} P test x xs e all = subst (λ (some : List X). AllByRecursion P some) (when_true (test x) (x ∷ filter test xs) (filter test xs) e) all
+with_first {X = X} P test x xs e all = subst (λ (some : List X). AllByRecursion P some) (cond-true (test x) (x ∷ filter test xs) (filter test xs) e) all
 
 -- What those have that a test keeps, where it doesn't keep the first.
 without_first : {X : Type 0} (P : X → Type 0) (test : X → Bool) (x : X) (xs : List X) → test x ≡ false → AllByRecursion P (filter test (x ∷ xs)) → AllByRecursion P (filter test xs)
-without_first {X = X} P test x xs e all = subst (λ (some : List X). AllByRecursion P some) (when_false (test x) (x ∷ filter test xs) (filter test xs) e) all
+without_first {X = X} P test x xs e all = subst (λ (some : List X). AllByRecursion P some) (cond-false (test x) (x ∷ filter test xs) (filter test xs) e) all
 
 -- What each item has that one test keeps is had by those that another keeps, where these pass the first.
 pub all_among : {X : Type 0} (P : X → Type 0) (test among : X → Bool) (xs : List X) → AllByRecursion (λ x. among x ≡ true) (filter test xs)

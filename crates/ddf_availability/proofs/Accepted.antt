@@ -1,5 +1,5 @@
 -- Nothing refuses a read of an array that its disks serve.
-use Rattle.std.proofs.Common.{◌≡◌, ◌∙◌, ℕ, ◌+◌, ◌≤◌, ◌&&◌, not, nat_lt, Bool, true, false, List, [], ◌∷◌, Option, Some, None, Result, Ok, Err, refl, sym, ap, arith}
+use Rattle.std.proofs.Common.{◌≡◌, ◌∙◌, ℕ, ◌+◌, ◌&&◌, not, nat_lt, Bool, true, false, List, [], ◌∷◌, Option, Some, None, Result, Ok, Err, refl, sym, ap, le-ltb}
 use Rattle.std.specs.List.{list_any, range_with_len}
 use Rattle.std.specs.Map.{lookup}
 use Rattle.ddf_config.specs.declared.array.Array.{Array}
@@ -16,8 +16,10 @@ use Rattle.ddf_config.specs.States.{is_marked}
 use Rattle.ddf_config.specs.Unusable.{is_served_on, unusable}
 use Rattle.ddf_config.specs.Within.{is_complete}
 use Rattle.ddf_secondary.specs.Arrangement.{Arrangement}
+use Rattle.ddf_config.proofs.Common.{pass_more}
 use Rattle.ddf_array.specs.Viewing.{is_array_within, parts_of, view_by, view_of, viewed}
 use Rattle.ddf_array.specs.Volume.{Volume, volume as volume_of}
+use Rattle.ddf_array.proofs.Usable.{holds}
 use Rattle.ddf_read.specs.Refused.{is_unsure, lacks_copy}
 use Rattle.ddf_request.specs.Named.{named_array}
 use Rattle.ddf_request.specs.Usable.{bad_blocks, is_held, useless}
@@ -27,10 +29,6 @@ use Rattle.ddf_read_commands.proofs.ArrayUse.{named_is}
 use Rattle.ddf_availability.specs.Serving.{IsServing}
 
 -- ---- causes in order
-
-pass_more : (a : Option Refusal) (others : List (Option Refusal)) → a ≡ None → first_refusal others ≡ None → first_refusal (a ∷ others) ≡ None
-pass_more None others p rest = rest
-pass_more (Some refusal) others p rest = absurd cc
 
 pass_seven : (a b c d e f g : Option Refusal) → a ≡ None → b ≡ None → c ≡ None → d ≡ None → e ≡ None → f ≡ None → g ≡ None → first_refusal (a ∷ b ∷ c ∷ d ∷ e ∷ f ∷ g ∷ []) ≡ None
 pass_seven a b c d e f g p q r s t u v =
@@ -47,13 +45,6 @@ none_of_three (Some x) b c is = absurd cc
 none_of_three None (Some x) c is = absurd cc
 none_of_three None None (Some x) is = absurd cc
 none_of_three None None None is = (refl, refl)
-
-not_refused : (b : Bool) (refusal : Refusal) → refuse_if (not b) refusal ≡ None → b ≡ true
-not_refused true refusal is = refl
-not_refused false refusal is = absurd cc
-
-not_past : (most number : ℕ) → number ≤ most → nat_lt most number ≡ false
-not_past most number within = grind arith
 
 -- ---- what a view tells
 
@@ -88,12 +79,12 @@ module _ (config : Configuration) (seats : List Seat) (word : List ℕ) (start c
       none_of_three (unserved_level guid array) (refuse_if (not (is_served_on config.members seats (extents config.arrays) array)) Shape) (refuse_if (not (is_complete array)) Lost) usable.0
 
   complete : is_complete array ≡ true
-  complete = not_refused (is_complete array) Lost parts.1
+  complete = holds (is_complete array) Lost parts.1
 
   in_range : refuse_if (is_out_of_range array start count) (Range (array_capacity array)) ≡ None
   in_range =
       ap (λ (b : Bool). refuse_if (b && nat_lt (array_capacity array) (start + count)) (Range (array_capacity array))) complete
-      ∙ ap (λ (b : Bool). refuse_if b (Range (array_capacity array))) (not_past (array_capacity array) (start + count) serving.in_range)
+      ∙ ap (λ (b : Bool). refuse_if b (Range (array_capacity array))) (le-ltb (array_capacity array) (start + count) serving.in_range)
 
   pub unmarked_view : serving.volume.marked ≡ false
   unmarked_view = mark_in (is_marked array) seats array (array_tiers array) serving.volume usable.1 ∙ serving.unmarked

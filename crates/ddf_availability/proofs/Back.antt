@@ -3,6 +3,7 @@ use Rattle.std.proofs.Common.{◌≡◌, ◌∙◌, ℕ, Bool, true, false, ◌&
 use Rattle.std.specs.Prelude.{slice_get}
 use Rattle.std.specs.List.{IsDistinct, list_any}
 use Rattle.std.specs.Map.{keys_of, lookup}
+use Rattle.ddf_lemmas.proofs.Options.{some_from_is_some}
 use Rattle.ddf_config.specs.declared.array.Array.{Array}
 use Rattle.ddf_config.specs.declared.element.Position.{Position}
 use Rattle.ddf_config.specs.declared.extent.Extent.{Extent}
@@ -31,11 +32,6 @@ use Rattle.ddf_availability.proofs.Tables.{on_returned}
 use Rattle.ddf_availability.proofs.Twice.{once_moved}
 use Rattle.ddf_availability.proofs.Usable.{still_usable}
 
--- a disk that is here has a floor
-some_floor : (floor : Option ℕ) → is_some floor ≡ true → (it : ℕ) × (floor ≡ Some it)
-some_floor None here = absurd cc
-some_floor (Some it) here = (it, refl)
-
 module _ (config : Configuration) (guid : List ℕ) (seats : List Seat) (target : Target) (disk : ℕ) (room : Extent) (choice : chosen config guid seats ≡ Some target) (found : room_for config guid seats target disk ≡ Some room) where
   at : IsBackAt config guid seats target
   at = is_chosen config guid seats target choice
@@ -63,8 +59,8 @@ module _ (config : Configuration) (guid : List ℕ) (seats : List Seat) (target 
       → (next : Array) × (lookup (same_guid asked) (arrays_after config (Return guid target.element target.position room.reference room.start)) ≡ Some next)
       × (low_state (members_after config (Return guid target.element target.position room.reference room.start)) next ≡ low_state config.members array)
   state_back are =
-      let from = some_floor (floor_of seats at.held.reference) at.is_here in
-      let goal = some_floor (floor_of seats room.reference) is_here in
+      let from = some_from_is_some (floor_of seats at.held.reference) at.is_here in
+      let goal = some_from_is_some (floor_of seats room.reference) is_here in
       state_kept guid target.element target.position room.reference room.start config at.array at.plan at.held at.is_array at.is_plan at.is_held at.is_synced
       (are at.held.reference from.0 from.1) (are room.reference goal.0 goal.1)
 

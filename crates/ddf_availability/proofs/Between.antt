@@ -1,9 +1,11 @@
 -- Changes and joins that leave a position where it is: what they leave of it, of its disk's member and of the GUIDs of arrays.
-use Rattle.std.proofs.Common.{◌≡◌, ◌∙◌, ℕ, Bool, true, false, not, ◌&&◌, ◌||◌, List, [], ◌∷◌, ◌++◌, nat_eq, Option, Some, None, refl, sym, ap, subst, if◌then◌else◌, arith}
-use Rattle.std.proofs.lemmas.Bool.{false≢true}
+use Rattle.std.proofs.Common.{◌≡◌, ◌∙◌, ℕ, Bool, true, false, not, ◌&&◌, ◌||◌, List, [], ◌∷◌, ◌++◌, nat_eq, Option, Some, None, refl, sym, ap, subst, if◌then◌else◌, arith, eq-eqb}
+use Rattle.std.proofs.lemmas.Bool.{not-true}
 use Rattle.std.proofs.lemmas.List.{append-nil}
 use Rattle.std.specs.List.{IsDistinct}
 use Rattle.std.specs.Map.{keys_of, lookup}
+use Rattle.std.proofs.Math.Bool.{and-false}
+use Rattle.std.proofs.lemmas.Map.Keys.{any_passes_from_place}
 use Rattle.ddf_config.specs.declared.array.Array.{Array}
 use Rattle.ddf_config.specs.declared.extent.Extent.{Extent}
 use Rattle.ddf_config.specs.declared.member.Member.{Member}
@@ -30,14 +32,9 @@ use Rattle.ddf_import.proofs.Apart.{arrays_fresh}
 use Rattle.ddf_availability.specs.GoneBack.{AllLeavePlace, Between, IsOnDisk, LeavesPlace, behind, behind_all, leaves_disk, leaves_place}
 use Rattle.ddf_availability.specs.GoneBack.Between.{ByChange, ByJoin}
 use Rattle.ddf_availability.proofs.Entries.{any_found, found_front, found_kept, joined_apart, kept_apart, none_kept, one_more}
-use Rattle.ddf_availability.proofs.Given.{and_false, any_at, more_kept}
+use Rattle.ddf_availability.proofs.Given.{more_kept}
 use Rattle.ddf_availability.proofs.Leaving.{HasOn, kept_on, not_both, same_both}
-use Rattle.ddf_availability.proofs.Moves.{same_test}
 use Rattle.ddf_availability.proofs.Tables.{member_found}
-
-not_so : (b : Bool) → not b ≡ true → b ≡ false
-not_so true is = absurd (false≢true is)
-not_so false is = refl
 
 turned : (a b : ℕ) → nat_eq a b ≡ false → (nat_eq b a || false) ≡ false
 turned a b away = let same : nat_eq b a ≡ false = grind arith in ap (λ (c : Bool). c || false) same
@@ -73,8 +70,8 @@ lowered guid element position reference members all arrays array is own =
 -- its disk holds an extent
 refers : (config : Configuration) (guid : List ℕ) (element position reference : ℕ) (on : IsOnDisk config guid element position reference) → array_refers reference on.array ≡ true
 refers config guid element position reference on =
-    any_at (part_refers reference) on.array.elements element (Some on.plan) on.is_plan
-    (any_at (position_refers reference) on.plan.positions position on.held on.is_held (same_test on.held.reference reference on.is_there))
+    any_passes_from_place (part_refers reference) on.array.elements element (Some on.plan) on.is_plan
+    (any_passes_from_place (position_refers reference) on.plan.positions position on.held on.is_held (eq-eqb on.held.reference reference on.is_there))
 
 holds : (config : Configuration) (guid : List ℕ) (element position reference : ℕ) → IsOnDisk config guid element position reference → holds_extent config reference ≡ true
 holds config guid element position reference on =
@@ -139,19 +136,19 @@ module _ (config : Configuration) (guid : List ℕ) (element position reference 
     found_same change same = member_found config change reference member there ∙ ap (λ (one : Member). Some one) same
 
     still_there : (change : Change) (sequence : ℕ) → leaves_place guid element position change ≡ true → leaves_disk reference change ≡ true → lookup (nat_eq reference) (members_after config change) ≡ Some member
-    still_there (Lose references) sequence leaves left = found_same (Lose references) (missing_same (is_among references reference) (not_so (is_among references reference) left))
+    still_there (Lose references) sequence leaves left = found_same (Lose references) (missing_same (is_among references reference) (not-true (is_among references reference) left))
     still_there (Fail failed) sequence leaves left =
-        found_same (Fail failed) (missing_same (is_among (failed ∷ []) reference) (turned failed reference (not_so (nat_eq failed reference) left)))
+        found_same (Fail failed) (missing_same (is_among (failed ∷ []) reference) (turned failed reference (not-true (nat_eq failed reference) left)))
     still_there (Spare spare next) sequence leaves left =
         found_same (Spare spare next)
         (spare_same (if nat_eq spare reference then use_in_order config.arrays next else member.spare)
-        (ap (λ (b : Bool). if b then use_in_order config.arrays next else member.spare) (not_so (nat_eq spare reference) left)))
+        (ap (λ (b : Bool). if b then use_in_order config.arrays next else member.spare) (not-true (nat_eq spare reference) left)))
     still_there (Delete gone) sequence leaves left =
         found_same (Delete gone)
         (spare_same (use_without gone (given_back (is_left_by config gone reference) member.spare))
         (none_given gone (is_left_by config gone reference)
         (ap (λ (b : Bool). is_current config.members reference && stands_in config gone reference && not b) (used_beside gone leaves)
-        ∙ and_false (is_current config.members reference && stands_in config gone reference))))
+        ∙ and-false (is_current config.members reference && stands_in config gone reference))))
     still_there (Begin named at one disk start) sequence leaves left =
         found_same (Begin named at one disk start) (spare_same (if nat_eq disk reference then No else member.spare) (no_use (nat_eq disk reference)))
     still_there (Return named at one disk start) sequence leaves left =

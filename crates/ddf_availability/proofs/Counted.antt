@@ -1,9 +1,10 @@
 -- How many extents are on a disk, where one of them moves.
 use Rattle.std.proofs.Common.{◌≡◌, ◌∙◌, ℕ, ◌+◌, ◌≤◌, Bool, true, false, ◌||◌, cond, List, [], ◌∷◌, map, count_by, nat_eq, nat_le, Option, Some, None, refl, sym, ap, arith}
-use Rattle.std.proofs.lemmas.Bool.{false≢true}
+use Rattle.std.proofs.lemmas.Bool.{false≢true, or_parts}
 use Rattle.std.proofs.lemmas.List.Folds.{list_any-append}
 use Rattle.std.proofs.lemmas.List.Sums.{sum_by-append, sum_by-cons}
 use Rattle.std.specs.List.{flat_map, list_any}
+use Rattle.ddf_lemmas.proofs.Tests.{one_test}
 use Rattle.ddf_config.specs.declared.element.Position.{Position}
 use Rattle.ddf_config.specs.declared.array.Array.{Array}
 use Rattle.ddf_config.specs.declared.extent.Extent.{Extent}
@@ -42,14 +43,10 @@ on_arrays reference (e ∷ es) =
 
 -- ---- how many
 
-neither : (a b : Bool) → (a || b) ≡ false → (a ≡ false) × (b ≡ false)
-neither true b h = absurd (false≢true (sym h))
-neither false b h = (refl, h)
-
 none_counted : (p : Extent → Bool) (xs : List Extent) → list_any p xs ≡ false → count_by p xs ≡ 0
 none_counted p [] h = refl
 none_counted p (x ∷ xs) h =
-    let parts = neither (p x) (list_any p xs) h in
+    let parts = or_parts (p x) (list_any p xs) h in
     sum_by-cons (λ y. cond (p y) 1 0) x xs ∙ ap (λ (b : Bool). cond b 1 0 + count_by p xs) parts.0 ∙ ap (λ (n : ℕ). 0 + n) (none_counted p xs parts.1)
 
 some_counted : (p : Extent → Bool) (xs : List Extent) → list_any p xs ≡ true → 1 ≤ count_by p xs
@@ -59,9 +56,6 @@ some_counted p (x ∷ xs) h = by (p x) (sum_by-cons (λ y. cond (p y) 1 0) x xs)
     by : (b : Bool) → count_by p (x ∷ xs) ≡ cond b 1 0 + count_by p xs → (b || list_any p xs) ≡ true → (list_any p xs ≡ true → 1 ≤ count_by p xs) → 1 ≤ count_by p (x ∷ xs)
     by true count h rest = omega (arith, count)
     by false count h rest = let more = rest h in omega (arith, count, more)
-
-one_test : (n : ℕ) → n ≤ 1 → nat_le n 1 ≡ true
-one_test n most = grind arith
 
 more_test : (n : ℕ) → 2 ≤ n → nat_le n 1 ≡ false
 more_test n least = grind arith
@@ -78,8 +72,8 @@ module _ (p : Extent → Bool) (old found : Extent) (before after : List Extent)
   -- Behind the move none is on the disk: only the one that moved was, and it is on another one.
   pub left_alone : list_any p after ≡ false → (p found ≡ false) × (nat_le (count_by p before) 1 ≡ true)
   left_alone none =
-      let parts = neither (list_any p moved.pre) (p found || list_any p moved.post) (sym any_is ∙ none) in
-      let behind = neither (p found) (list_any p moved.post) parts.1 in
+      let parts = or_parts (list_any p moved.pre) (p found || list_any p moved.post) (sym any_is ∙ none) in
+      let behind = or_parts (p found) (list_any p moved.post) parts.1 in
       let first = none_counted p moved.pre parts.0 in
       let last_ones = none_counted p moved.post behind.1 in
       (behind.0, one_test (count_by p before) (omega (arith, count_is, first, last_ones)))

@@ -1,6 +1,6 @@
 -- Tables whose entries change, stay or go, and others behind them.
 use Rattle.std.proofs.Common.{◌≡◌, ◌∙◌, ℕ, zero, suc, ◌+◌, Bool, true, false, ◌||◌, cond, List, [], ◌∷◌, ◌++◌, map, Option, Some, None, append_assoc, refl, sym, ap, subst, arith}
-use Rattle.std.proofs.lemmas.Bool.{false≢true}
+use Rattle.std.proofs.lemmas.Bool.{or_left, or_right}
 use Rattle.std.proofs.lemmas.Cmp.{nat_list_eq_equiv}
 use Rattle.std.proofs.lemmas.List.{append-nil}
 use Rattle.std.proofs.lemmas.Map.Keys.{IsDistinct-cons, IsDistinct-head, IsDistinct-push, IsDistinct-tail}
@@ -23,14 +23,6 @@ mapped_get f (suc k) (y ∷ xs) x at = mapped_get f k xs x at
 
 pub numbered_first : {X Y : Type 0} (f : (ℕ × X) → Y) (k : ℕ) (xs : List X) (x : X) → slice_get xs k ≡ Some x → slice_get (map f (enumerate_from 0 xs)) k ≡ Some (f (k, x))
 numbered_first f k xs x at = let number : 0 + k ≡ k = omega arith in numbered_get f 0 k xs x at ∙ ap (λ (n : ℕ). Some (f (n, x))) number
-
-or_first : (a b : Bool) → a ≡ true → (a || b) ≡ true
-or_first true b is = refl
-or_first false b is = absurd (false≢true is)
-
-or_second : (a b : Bool) → b ≡ true → (a || b) ≡ true
-or_second true b is = refl
-or_second false b is = is
 
 -- ---- look-ups
 
@@ -83,8 +75,8 @@ module _ {K X : Type 0} where
       by : (b : Bool) → test e.0 ≡ b → cond b (Some e.1) (lookup test es) ≡ Some x → (lookup test es ≡ Some x → list_any p es ≡ true) → (p e || list_any p es) ≡ true
       by true is at later =
           let same : e.1 ≡ x = cc in
-          or_first (p e) (list_any p es) (ap (λ (one : X). p (e.0, one)) same ∙ each e.0 is)
-      by false is at later = or_second (p e) (list_any p es) (later at)
+          or_left (p e) (list_any p es) (ap (λ (one : X). p (e.0, one)) same ∙ each e.0 is)
+      by false is at later = or_right (p e) (list_any p es) (later at)
 
   -- ---- keys
 

@@ -1,9 +1,12 @@
 -- What a disk is for that gives a place back: by the change of its position, and by the end of its array.
-use Rattle.std.proofs.Common.{◌≡◌, ◌∙◌, ℕ, zero, suc, ◌<◌, Bool, true, false, not, ◌&&◌, ◌||◌, ◌==◌, cond, List, [], ◌∷◌, ◌++◌, nat_eq, Option, Some, None, refl, sym, ap, arith}
-use Rattle.std.proofs.lemmas.Bool.{and_from, and_parts, eqb-true, false≢true}
+use Rattle.std.proofs.Common.{◌≡◌, ◌∙◌, ℕ, zero, suc, ◌<◌, Bool, true, false, not, ◌&&◌, ◌||◌, ◌==◌, cond, List, [], ◌∷◌, ◌++◌, nat_eq, Option, Some, None, refl, sym, ap, arith, eq-eqb}
+use Rattle.std.proofs.lemmas.Bool.{and_from, and_parts, eqb-true, false≢true, not_from_true}
 use Rattle.std.specs.Prelude.{option_map, slice_get}
 use Rattle.std.specs.List.{IsDistinct, cons_option, list_any}
 use Rattle.std.specs.Map.{keys_of, lookup}
+use Rattle.std.proofs.Math.Bool.{and-false}
+use Rattle.std.proofs.lemmas.Map.Keys.{any_passes_from_place}
+use Rattle.ddf_lemmas.proofs.Lists.{any_place}
 use Rattle.ddf_config.specs.declared.array.Array.{Array}
 use Rattle.ddf_config.specs.declared.element.Position.{Position}
 use Rattle.ddf_config.specs.declared.extent.Extent.{Extent}
@@ -26,18 +29,8 @@ use Rattle.ddf_plan.specs.Spare.{array_refers, holds_extent, position_refers}
 use Rattle.ddf_plan.specs.Standing.{given_back, gives_up, has_stand_in, holds_beside, holds_one, is_given_back, is_held_by, is_left_by, is_stand_in, is_used_beside, part_stands_in, stands_in}
 use Rattle.ddf_availability.specs.GoneBack.{IsOnDisk, StandsInAt, as_revertible, as_spare_without}
 use Rattle.ddf_availability.proofs.Counted.{is_on, left_alone, left_more, on_arrays}
-use Rattle.ddf_availability.proofs.Moves.{moved_in, moved_position, same_test}
+use Rattle.ddf_availability.proofs.Moves.{moved_in, moved_position}
 use Rattle.ddf_availability.proofs.Tables.{member_found}
-
--- ---- tests
-
-not_true : (b : Bool) → b ≡ true → not b ≡ false
-not_true true is = refl
-not_true false is = absurd (false≢true is)
-
-pub and_false : (b : Bool) → (b && false) ≡ false
-and_false true = refl
-and_false false = refl
 
 -- ---- spares
 
@@ -67,7 +60,7 @@ module _ (config : Configuration) (guid : List ℕ) (element position reference 
       let reference_is : reference_at config guid element position ≡ Some on.held.reference =
       ap (λ (found : Option Array). elim found [ None ↦ None | Some array ↦ part_reference position (element_at array element) ]) on.is_array
       ∙ ap (part_reference position) element_is ∙ ap (option_map (λ (held : Position). held.reference)) on.is_held in
-      ap (λ (one : Option ℕ). elim one [ None ↦ false | Some held ↦ nat_eq held reference ]) reference_is ∙ same_test on.held.reference reference on.is_there
+      ap (λ (one : Option ℕ). elim one [ None ↦ false | Some held ↦ nat_eq held reference ]) reference_is ∙ eq-eqb on.held.reference reference on.is_there
 
   pub on_disk : is_held_by config guid element position reference ≡ true → IsOnDisk config guid element position reference
   on_disk h = by_array (lookup (same_guid guid) config.arrays) refl h
@@ -119,7 +112,7 @@ module _ (config : Configuration) (guid : List ℕ) (element position disk start
   missing_kept is =
       not_given
       (ap (λ (b : Bool). b && is_held_by config guid element position reference && not (nat_eq disk reference) && holds_one config reference)
-      (current_by config reference member there ∙ not_true member.missing is))
+      (current_by config reference member there ∙ not_from_true member.missing is))
 
   pub other_kept : (IsOnDisk config guid element position reference → ⊥) → lookup (nat_eq reference) (members_after config (Return guid element position disk start)) ≡ Some member
   other_kept away = by (is_held_by config guid element position reference) refl
@@ -129,12 +122,12 @@ module _ (config : Configuration) (guid : List ℕ) (element position disk start
       by false is =
           not_given
           (ap (λ (b : Bool). is_current config.members reference && b && not (nat_eq disk reference) && holds_one config reference) is
-          ∙ ap (λ (b : Bool). b && not (nat_eq disk reference) && holds_one config reference) (and_false (is_current config.members reference)))
+          ∙ ap (λ (b : Bool). b && not (nat_eq disk reference) && holds_one config reference) (and-false (is_current config.members reference)))
 
   module _ (apart : IsDistinct same_guid (keys_of config.arrays)) where
     module _ (on : IsOnDisk config guid element position reference) where
       was_on : is_on reference (extent on.plan.blocks on.held) ≡ true
-      was_on = same_test on.held.reference reference on.is_there
+      was_on = eq-eqb on.held.reference reference on.is_there
 
       pub alone_then : holds_extent (changed_at config (Return guid element position disk start) sequence) reference ≡ false → (nat_eq disk reference ≡ false) × (holds_one config reference ≡ true)
       alone_then none =
@@ -168,36 +161,17 @@ module _ (config : Configuration) (guid : List ℕ) (element position disk start
         by false c is same =
             not_given
             (ap (λ (b : Bool). is_current config.members reference && b && not (nat_eq disk reference) && holds_one config reference) is
-            ∙ ap (λ (b : Bool). b && not (nat_eq disk reference) && holds_one config reference) (and_false (is_current config.members reference)))
+            ∙ ap (λ (b : Bool). b && not (nat_eq disk reference) && holds_one config reference) (and-false (is_current config.members reference)))
         by true true is same =
             not_given
             (ap (λ (b : Bool). is_current config.members reference && is_held_by config guid element position reference && not b && holds_one config reference) same
-            ∙ ap (λ (b : Bool). b && holds_one config reference) (and_false (is_current config.members reference && is_held_by config guid element position reference)))
+            ∙ ap (λ (b : Bool). b && holds_one config reference) (and-false (is_current config.members reference && is_held_by config guid element position reference)))
         by true false is same =
             not_given
             (ap (λ (b : Bool). gives_up config guid element position disk reference && b) (more_then (on_disk config guid element position reference is) some same)
-            ∙ and_false (gives_up config guid element position disk reference))
+            ∙ and-false (gives_up config guid element position disk reference))
 
 -- ---- its array is no more
-
-pub any_at : {X : Type 0} (p : X → Bool) (xs : List X) (k : ℕ) (x : X) → slice_get xs k ≡ Some x → p x ≡ true → list_any p xs ≡ true
-any_at p [] k x at is = absurd cc
-any_at p (y ∷ xs) zero x at is =
-    let same : y ≡ x = cc in
-    ap (λ (b : Bool). b || list_any p xs) (ap p same ∙ is)
-any_at p (y ∷ xs) (suc k) x at is = by (p y) (any_at p xs k x at is)
-  where
-    by : (b : Bool) → list_any p xs ≡ true → (b || list_any p xs) ≡ true
-    by true rest = refl
-    by false rest = rest
-
-at_any : {X : Type 0} (p : X → Bool) (xs : List X) → list_any p xs ≡ true → (k : ℕ) × (x : X) × (slice_get xs k ≡ Some x) × (p x ≡ true)
-at_any p [] is = absurd (false≢true is)
-at_any {X} p (y ∷ xs) is = by (p y) refl is (at_any p xs)
-  where
-    by : (b : Bool) → p y ≡ b → (b || list_any p xs) ≡ true → (list_any p xs ≡ true → (k : ℕ) × (x : X) × (slice_get xs k ≡ Some x) × (p x ≡ true)) → (k : ℕ) × (x : X) × (slice_get (y ∷ xs) k ≡ Some x) × (p x ≡ true)
-    by true here is rest = (0, y, refl, here)
-    by false here is rest = let at = rest is in (suc at.0, at.1, at.2, at.3)
 
 module _ (config : Configuration) (guid : List ℕ) (reference : ℕ) where
   above_zero : (n : ℕ) → 0 < n → (n == 0) ≡ false
@@ -215,13 +189,13 @@ module _ (config : Configuration) (guid : List ℕ) (reference : ℕ) where
   stands at =
       let plan = at.on.plan in
       let there : list_any (position_refers plan.stand_in) plan.positions ≡ true =
-      any_at (position_refers plan.stand_in) plan.positions at.position at.on.held at.on.is_held (same_test at.on.held.reference plan.stand_in (at.on.is_there ∙ sym at.is_stand_in)) in
+      any_passes_from_place (position_refers plan.stand_in) plan.positions at.position at.on.held at.on.is_held (eq-eqb at.on.held.reference plan.stand_in (at.on.is_there ∙ sym at.is_stand_in)) in
       let some : not (plan.stand_in == 0) ≡ true = ap not (ap (λ (n : ℕ). n == 0) at.is_stand_in ∙ not_zero reference at.is_disk) in
       let is : is_stand_in reference plan ≡ true =
-      and_from (nat_eq plan.stand_in reference) (has_stand_in plan) (same_test plan.stand_in reference at.is_stand_in)
+      and_from (nat_eq plan.stand_in reference) (has_stand_in plan) (eq-eqb plan.stand_in reference at.is_stand_in)
       (and_from (not (plan.stand_in == 0)) (list_any (position_refers plan.stand_in) plan.positions) some there) in
       ap (λ (found : Option Array). elim found [ None ↦ false | Some array ↦ list_any (part_stands_in reference) array.elements ]) at.on.is_array
-      ∙ any_at (part_stands_in reference) at.on.array.elements at.element (Some plan) at.on.is_plan is
+      ∙ any_passes_from_place (part_stands_in reference) at.on.array.elements at.element (Some plan) at.on.is_plan is
 
   pub stands_at : stands_in config guid reference ≡ true → StandsInAt config guid reference
   stands_at h = by_array (lookup (same_guid guid) config.arrays) refl h
@@ -232,7 +206,7 @@ module _ (config : Configuration) (guid : List ℕ) (reference : ℕ) where
       by_part array is_array k (Some plan) at is =
           let parts = and_parts (nat_eq plan.stand_in reference) (has_stand_in plan) is in
           let both = and_parts (not (plan.stand_in == 0)) (list_any (position_refers plan.stand_in) plan.positions) parts.1 in
-          let held = at_any (position_refers plan.stand_in) plan.positions both.1 in
+          let held = any_place (position_refers plan.stand_in) plan.positions both.1 in
           let is_stand_in = eqb-true plan.stand_in reference parts.0 in
           record {
             element = k;
@@ -252,7 +226,7 @@ module _ (config : Configuration) (guid : List ℕ) (reference : ℕ) where
 
       by_array : (found : Option Array) → lookup (same_guid guid) config.arrays ≡ found → (elim found [ None ↦ false | Some array ↦ list_any (part_stands_in reference) array.elements ]) ≡ true → StandsInAt config guid reference
       by_array None e h = absurd (false≢true h)
-      by_array (Some array) e h = let at = at_any (part_stands_in reference) array.elements h in by_part array e at.0 at.1 at.2 at.3
+      by_array (Some array) e h = let at = any_place (part_stands_in reference) array.elements h in by_part array e at.0 at.1 at.2 at.3
 
   -- the arrays that are left are those beside it
   left_are : (members : List (ℕ × Member)) (all : List Extent) (es : List (List ℕ × Array))
@@ -295,7 +269,7 @@ module _ (config : Configuration) (guid : List ℕ) (reference : ℕ) where
     pub left_missing : member.missing ≡ true → lookup (nat_eq reference) (members_after config (Delete guid)) ≡ Some (as_spare_without guid member)
     left_missing is =
         not_left
-        (ap (λ (b : Bool). b && stands_in config guid reference && not (holds_beside config guid reference)) (current_by config reference member there ∙ not_true member.missing is))
+        (ap (λ (b : Bool). b && stands_in config guid reference && not (holds_beside config guid reference)) (current_by config reference member there ∙ not_from_true member.missing is))
 
     pub left_spare : is_spare member.spare ≡ true → lookup (nat_eq reference) (members_after config (Delete guid)) ≡ Some (as_spare_without guid member)
     left_spare is = use_is member.spare (spare_stays (is_left_by config guid reference) member.spare is)
@@ -308,10 +282,10 @@ module _ (config : Configuration) (guid : List ℕ) (reference : ℕ) where
         by false is =
             not_left
             (ap (λ (b : Bool). is_current config.members reference && b && not (holds_beside config guid reference)) is
-            ∙ ap (λ (b : Bool). b && not (holds_beside config guid reference)) (and_false (is_current config.members reference)))
+            ∙ ap (λ (b : Bool). b && not (holds_beside config guid reference)) (and-false (is_current config.members reference)))
 
     pub left_more_there : holds_extent (changed_at config (Delete guid) sequence) reference ≡ true → lookup (nat_eq reference) (members_after config (Delete guid)) ≡ Some (as_spare_without guid member)
     left_more_there some =
         not_left
         (ap (λ (b : Bool). is_current config.members reference && stands_in config guid reference && not b) (sym (beside_is sequence) ∙ some)
-        ∙ and_false (is_current config.members reference && stands_in config guid reference))
+        ∙ and-false (is_current config.members reference && stands_in config guid reference))

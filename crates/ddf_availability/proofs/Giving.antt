@@ -1,7 +1,7 @@
 -- A read of an array that its disks serve gives its blocks, where no read fails of a disk of it.
-use Rattle.std.proofs.Common.{◌≡◌, ◌∙◌, ◌⊎◌, ℕ, ◌+◌, ◌-◌, List, length, min, Option, Some, None, Result, Ok, refl, sym, ap, subst, inl, inr}
+use Rattle.std.proofs.Common.{◌≡◌, ◌∙◌, ◌⊎◌, ℕ, ◌+◌, ◌-◌, List, length, min, Option, Result, Ok, refl, sym, ap, subst, inl, inr}
+use Rattle.ddf_lemmas.proofs.Options.{same_ok_value, same_some, none_some}
 use Rattle.ddf_config.specs.declared.array.Array.{Array}
-use Rattle.ddf_config.specs.declared.refusal.Refusal.{Refusal}
 use Rattle.ddf_config.specs.declared.seat.Seat.{Seat}
 use Rattle.ddf_config.specs.Configuration.{Configuration}
 use Rattle.ddf_array.specs.Viewing.{view_of}
@@ -22,22 +22,13 @@ use Rattle.ddf_read_commands.specs.Read.Outcome.{CutShort, NotRead, Stopped, Who
 use Rattle.ddf_availability.specs.Serving.{GivesBlocks, IsServing, IsToldAll}
 use Rattle.ddf_availability.proofs.Accepted.{accepted}
 
-same_some : {X : Type 0} (found : Option X) (one other : X) → found ≡ Some one → found ≡ Some other → one ≡ other
-same_some {X = X} found one other is at = let both : ◌≡◌ {A = Option X} (Some one) (Some other) = sym is ∙ at in cc
-
-same_ok : {X E : Type 0} (found : Result X E) (one other : X) → found ≡ Ok one → found ≡ Ok other → one ≡ other
-same_ok {X = X} {E = E} found one other is at = let both : ◌≡◌ {A = Result X E} (Ok one) (Ok other) = sym is ∙ at in cc
-
-no_refusal : (refused : Option Refusal) (refusal : Refusal) → refused ≡ None → refused ≡ Some refusal → ⊥
-no_refusal refused refusal none is = let both : ◌≡◌ {A = Option Refusal} None (Some refusal) = sym none ∙ is in cc
-
 module _ {D : Type 0} (work : Work D) (told : work.tells) (config : Configuration) (seats : List Seat) (word : List ℕ) (start count : ℕ) (serving : IsServing config seats word start count)
     (calm : NoneFailed serving.volume work.old work.new) where
   -- A view that is read is the one that is served.
   seen_so : (volume : Volume) → IsReadable config seats word start count volume → volume ≡ serving.volume
   seen_so volume readable =
       let entry : readable.entry ≡ serving.entry = same_some (named_array config.arrays word) readable.entry serving.entry readable.is_named serving.is_named in
-      same_ok (view_of config serving.entry.0 seats) volume serving.volume (sym (ap (λ (one : List ℕ × Array). view_of config one.0 seats) entry) ∙ readable.is_view) serving.is_view
+      same_ok_value (view_of config serving.entry.0 seats) volume serving.volume (sym (ap (λ (one : List ℕ × Array). view_of config one.0 seats) entry) ∙ readable.is_view) serving.is_view
 
   calm_on : (volume : Volume) → IsReadable config seats word start count volume → NoneFailed volume work.old work.new
   calm_on volume readable slot on failed = calm slot (subst (λ (v : Volume). IsOn v slot) (seen_so volume readable) on) failed
@@ -57,7 +48,7 @@ module _ {D : Type 0} (work : Work D) (told : work.tells) (config : Configuratio
     is.2.0,
     values_then is.0 count sectors is.1 (subst (λ (many : ℕ). AreValues work.old.held is.0 start many sectors) is.2.0 (is.2.1.values told (calm_on is.0 is.1))),
   )
-  gives (NotRead (Refused refusal)) is = absurd (no_refusal (read_refusal config seats (named_array config.arrays word) start count) refusal (accepted config seats word start count serving) is)
+  gives (NotRead (Refused refusal)) is = absurd (none_some (read_refusal config seats (named_array config.arrays word) start count) refusal (accepted config seats word start count serving) is)
   gives (NotRead (Disk slot)) is = absurd (has_source is.0 start (min count piece_blocks) slot is.1 is.2)
   gives (NotRead (Conflict i j sequence differ)) is = absurd is.2
   gives (NotRead (Split i j)) is = absurd is.2

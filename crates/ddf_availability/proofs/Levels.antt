@@ -1,12 +1,13 @@
 -- An array of which a position goes from a disk that is here to another one is within its level where it was, and its state is the same.
-use Rattle.std.proofs.Common.{◌≡◌, ◌∙◌, ℕ, suc, ◌+◌, Bool, true, false, not, ◌&&◌, ◌||◌, ◌==◌, List, [], ◌∷◌, map, nat_eq, nat_le, Option, Some, refl, sym, ap, subst, if◌then◌else◌, arith}
+use Rattle.std.proofs.Common.{◌≡◌, ◌∙◌, ℕ, ◌+◌, Bool, true, false, not, ◌&&◌, ◌==◌, List, map, nat_eq, nat_le, Option, Some, refl, sym, ap, subst, if◌then◌else◌, arith}
 use Rattle.std.proofs.Math.Path.{fun_ext}
 use Rattle.std.proofs.lemmas.Bool.{eqb-true}
 use Rattle.std.proofs.lemmas.List.{length-map}
 use Rattle.std.proofs.lemmas.List.FromFn.{length-enumerate_from}
 use Rattle.std.specs.Prelude.{option_map, slice_get}
-use Rattle.std.specs.List.{enumerate_from, list_all, list_any}
+use Rattle.std.specs.List.{enumerate_from, list_any}
 use Rattle.std.specs.Map.{lookup}
+use Rattle.ddf_lemmas.proofs.Lists.{any_map, numbered_same}
 use Rattle.ddf_primary.specs.Needs.{need_of}
 use Rattle.ddf_config.specs.declared.array.Array.{Array}
 use Rattle.ddf_config.specs.declared.element.Position.{Position}
@@ -15,6 +16,7 @@ use Rattle.ddf_config.specs.ElementValue.{ElementValue}
 use Rattle.ddf_config.specs.Members.{is_current, same_guid}
 use Rattle.ddf_config.specs.States.{has_position_out, is_out, low_state}
 use Rattle.ddf_config.specs.Within.{has_enough, has_enough_parts, is_available, is_mirrored, is_part_within, is_within}
+use Rattle.ddf_config.proofs.Common.{enough_parts}
 use Rattle.ddf_plan.specs.declared.change.Change.{Change}
 use Rattle.ddf_plan.specs.declared.change.Change.TheVariants.{Return}
 use Rattle.ddf_plan.specs.Arrays.{arrays_after, element_after, named_after, part_after}
@@ -28,33 +30,8 @@ use Rattle.ddf_availability.proofs.Usable.{one_array}
 
 -- ---- lists of answers
 
-any_map : {X : Type 0} (test : X → Bool) (xs : List X) → list_any test xs ≡ list_any (λ b. b) (map test xs)
-any_map test [] = refl
-any_map test (x ∷ xs) = ap (λ (b : Bool). test x || b) (any_map test xs)
-
-all_map : {X : Type 0} (test : X → Bool) (xs : List X) → list_all test xs ≡ list_all (λ b. b) (map test xs)
-all_map test [] = refl
-all_map test (x ∷ xs) = ap (λ (b : Bool). test x && b) (all_map test xs)
-
 any_same : {X : Type 0} (test : X → Bool) (xs ys : List X) → map test xs ≡ map test ys → list_any test xs ≡ list_any test ys
 any_same test xs ys same = any_map test xs ∙ ap (list_any (λ b. b)) same ∙ sym (any_map test ys)
-
-enough_parts : {X : Type 0} (mirrored : Bool) (test : X → Bool) (xs ys : List X) → map test xs ≡ map test ys → has_enough_parts mirrored test xs ≡ has_enough_parts mirrored test ys
-enough_parts true test xs ys same = any_same test xs ys same
-enough_parts false test xs ys same = all_map test xs ∙ ap (list_all (λ b. b)) same ∙ sym (all_map test ys)
-
--- where items are made of others by their numbers, and each has the answer of the one that it is made of
-numbered_same : {X : Type 0} (test : X → Bool) (made : (ℕ × X) → X) (from : ℕ) (xs : List X) → ((k : ℕ) (x : X) → slice_get xs k ≡ Some x → test (made (from + k, x)) ≡ test x)
-    → map test (map made (enumerate_from from xs)) ≡ map test xs
-numbered_same test made from [] same = refl
-numbered_same {X = X} test made from (x ∷ xs) same =
-    let first : from + 0 ≡ from = omega arith in
-    ap (λ (b : Bool). b ∷ map test (map made (enumerate_from (from + 1) xs))) (ap (λ (n : ℕ). test (made (n, x))) (sym first) ∙ same 0 x refl)
-    ∙ ap (λ (rest : List Bool). test x ∷ rest)
-    (numbered_same test made (from + 1) xs (λ k one at. ap (λ (n : ℕ). test (made (n, one))) (moved k) ∙ same (suc k) one at))
-  where
-    moved : (k : ℕ) → (from + 1) + k ≡ from + suc k
-    moved k = omega arith
 
 module _ (guid : List ℕ) (element position disk start : ℕ) where
   abbrev change : Change

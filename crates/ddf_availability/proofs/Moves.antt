@@ -1,10 +1,11 @@
 -- A position that goes to another disk: one extent of all is another one, and no other is.
-use Rattle.std.proofs.Common.{◌≡◌, ℕ, zero, suc, ◌+◌, ◌<◌, Bool, true, false, cond, List, [], ◌∷◌, ◌++◌, map, Option, Some, None, option_map, nat_eq, append_assoc, refl, sym, ap, subst, ◌∙◌, if◌then◌else◌, arith}
+use Rattle.std.proofs.Common.{◌≡◌, ℕ, zero, suc, ◌+◌, ◌<◌, Bool, true, false, cond, List, [], ◌∷◌, ◌++◌, map, Option, Some, None, option_map, nat_eq, append_assoc, refl, sym, ap, subst, ◌∙◌, if◌then◌else◌, arith, eq-eqb}
 use Rattle.std.proofs.lemmas.Cmp.{nat_list_eq_equiv}
 use Rattle.std.proofs.lemmas.Map.Keys.{IsDistinct-head, IsDistinct-tail}
 use Rattle.std.specs.Prelude.{slice_get}
 use Rattle.std.specs.Map.{keys_of, lookup}
 use Rattle.std.specs.List.{AllByRecursion, IsDistinct, enumerate_from, flat_map}
+use Rattle.ddf_lemmas.proofs.Tests.{less_test}
 use Rattle.ddf_config.specs.declared.element.Position.{Position}
 use Rattle.ddf_config.specs.declared.array.Array.{Array}
 use Rattle.ddf_config.specs.declared.extent.Extent.{Extent}
@@ -57,14 +58,8 @@ replaced old found before after moved =
 
 -- ---- numbers
 
-less_test : (a b : ℕ) → a < b → nat_eq a b ≡ false
-less_test a b less = grind arith
-
 more_test : (a b : ℕ) → b < a → nat_eq a b ≡ false
 more_test a b more = grind arith
-
-pub same_test : (a b : ℕ) → a ≡ b → nat_eq a b ≡ true
-same_test a b same = grind arith
 
 -- ---- positions
 
@@ -108,7 +103,7 @@ module _ (guid : List ℕ) (element position disk start : ℕ) where
       let same : one ≡ held = cc in
       subst (λ (old : Position). IsMoved (extent blocks old) (found blocks) (extent blocks one ∷ map (extent blocks) positions) (map (extent blocks) (positions_from n (one ∷ positions)))) same
       (subst (λ (new : Position). IsMoved (extent blocks one) (found blocks) (extent blocks one ∷ map (extent blocks) positions) (extent blocks new ∷ map (extent blocks) (positions_from (n + 1) positions)))
-      (sym (goes n one (same_test position n (omega (arith, number)))))
+      (sym (goes n one (eq-eqb position n (omega (arith, number)))))
       (moved_here (extent blocks one) (found blocks) (map (extent blocks) positions) (map (extent blocks) (positions_from (n + 1) positions)) (later_positions blocks (n + 1) positions (omega (arith, number)))))
   positions_moved blocks n (suc k) (one ∷ positions) held number at =
       subst (λ (new : Position). IsMoved (extent blocks held) (found blocks) (extent blocks one ∷ map (extent blocks) positions) (extent blocks new ∷ map (extent blocks) (positions_from (n + 1) positions)))
@@ -141,7 +136,7 @@ module _ (guid : List ℕ) (element position disk start : ℕ) where
       let same : one ≡ plan = cc in
       subst (λ (b : Bool). IsMoved (extent plan.blocks held) (found plan.blocks) (part_extents (Some one) ++ flat_map part_extents parts)
       (part_extents (if b then Some (element_after false change one) else Some one) ++ flat_map part_extents (parts_from (n + 1) parts)))
-      (sym (same_test element n (omega (arith, number))))
+      (sym (eq-eqb element n (omega (arith, number))))
       (moved_behind (extent plan.blocks held) (found plan.blocks) (flat_map part_extents parts) (flat_map part_extents (parts_from (n + 1) parts)) (part_extents (Some one)) (part_extents (Some (element_after false change one)))
       (later_parts (n + 1) parts (omega (arith, number))) (element_moved plan one held same at))
   parts_moved n (suc k) (part ∷ parts) plan held number there at =

@@ -1,5 +1,5 @@
 -- A revertible spare onto which a rebuild begins is the same again once the position has gone to another disk.
-use Rattle.std.proofs.Common.{◌≡◌, ◌∙◌, ℕ, zero, suc, ◌<◌, Bool, true, false, not, cond, List, [], ◌∷◌, length, nat_eq, Option, Some, None, option_map, refl, sym, ap, if◌then◌else◌, arith}
+use Rattle.std.proofs.Common.{◌≡◌, ◌∙◌, ℕ, zero, suc, ◌<◌, Bool, true, false, not, cond, List, [], ◌∷◌, length, nat_eq, Option, Some, None, option_map, refl, sym, ap, if◌then◌else◌, arith, eq-eqb}
 use Rattle.std.proofs.lemmas.Bool.{false≢true, ltb-true}
 use Rattle.std.specs.Prelude.{slice_get}
 use Rattle.std.specs.List.{IsDistinct}
@@ -23,10 +23,10 @@ use Rattle.ddf_plan.specs.Members.{member_after, members_after}
 use Rattle.ddf_plan.specs.Rebuild.{element_at, has_position, part_has}
 use Rattle.ddf_plan.specs.Refusals.{no_array, not_current}
 use Rattle.ddf_plan.specs.Spare.{holds_extent}
+use Rattle.ddf_array.proofs.Usable.{holds}
 use Rattle.ddf_availability.specs.GoneBack.{AllLeavePlace, Between, IsOnDisk, behind_all}
 use Rattle.ddf_availability.proofs.Between.{still_standing}
 use Rattle.ddf_availability.proofs.Given.{given_again}
-use Rattle.ddf_availability.proofs.Moves.{same_test}
 use Rattle.ddf_availability.proofs.Tables.{begun_distinct, member_found, on_begun}
 
 -- ---- a change that nothing refuses
@@ -36,10 +36,6 @@ none_refuses None None None h = (refl, refl)
 none_refuses None None (Some refusal) h = absurd cc
 none_refuses None (Some refusal) c h = absurd cc
 none_refuses (Some refusal) b c h = absurd cc
-
-is_allowed : (b : Bool) (refusal : Refusal) → refuse_if (not b) refusal ≡ None → b ≡ true
-is_allowed true refusal h = refl
-is_allowed false refusal h = absurd cc
 
 module _ (config : Configuration) (guid : List ℕ) (element position : ℕ) where
   got_within : {X : Type 0} (xs : List X) (k : ℕ) → k < length xs → (x : X) × (slice_get xs k ≡ Some x)
@@ -69,7 +65,7 @@ module _ (config : Configuration) (guid : List ℕ) (element position : ℕ) whe
     passed = none_refuses (no_array config guid) (refuse_if (not (has_position config guid element position)) Shape) (not_current config seats (reference ∷ [])) allowed
 
     on : (old : ℕ) × IsOnDisk config guid element position old
-    on = some_disk (is_allowed (has_position config guid element position) Shape passed.0)
+    on = some_disk (holds (has_position config guid element position) Shape passed.0)
 
     current_by : (b : Bool) → option_map (λ (one : ℕ). NotMember (slot_of seats one)) (cond (not b) (Some reference) None) ≡ None → b ≡ true
     current_by true h = refl
@@ -98,7 +94,7 @@ module _ (config : Configuration) (guid : List ℕ) (element position : ℕ) whe
     same_again steps disk back first second member keep apart there is_revertible none =
         let begun = changed_at config (Begin guid element position reference start) first in
         let own = member_after config (Begin guid element position reference start) reference member in
-        let none_yet : own.spare ≡ No = no_spare (nat_eq reference reference) member.spare (same_test reference reference refl) in
+        let none_yet : own.spare ≡ No = no_spare (nat_eq reference reference) member.spare (eq-eqb reference reference refl) in
         let standing = still_standing guid element position reference own (here member there) none_yet steps begun keep (record {
           apart = begun_distinct config guid element position reference start first apart;
           on = on_begun config guid element position on.0 reference start first on.1;

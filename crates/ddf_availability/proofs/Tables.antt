@@ -1,5 +1,5 @@
 -- What a change of one position makes of it, and of the members.
-use Rattle.std.proofs.Common.{◌≡◌, ◌∙◌, ℕ, zero, suc, ◌+◌, Bool, true, false, not, cond, List, [], ◌∷◌, map, nat_eq, Option, Some, None, refl, sym, ap, subst, if◌then◌else◌, arith}
+use Rattle.std.proofs.Common.{◌≡◌, ◌∙◌, ℕ, zero, suc, ◌+◌, Bool, true, false, not, cond, List, [], ◌∷◌, map, nat_eq, Option, Some, None, refl, sym, ap, subst, if◌then◌else◌, arith, eq-eqb}
 use Rattle.std.proofs.lemmas.Bool.{eqb-true}
 use Rattle.std.specs.Prelude.{option_map, slice_get}
 use Rattle.std.specs.List.{IsDistinct, enumerate_from}
@@ -23,7 +23,7 @@ use Rattle.ddf_plan.specs.Rebuild.{new_position}
 use Rattle.ddf_plan.specs.Standing.{takes_revertible}
 use Rattle.ddf_repair.proofs.Usable.{both_changed, looked_up, one_after}
 use Rattle.ddf_availability.specs.GoneBack.{IsOnDisk}
-use Rattle.ddf_availability.proofs.Moves.{moved_position, returned_is, same_test, table_is}
+use Rattle.ddf_availability.proofs.Moves.{moved_position, returned_is, table_is}
 
 -- ---- lists
 
@@ -57,7 +57,7 @@ module _ (config : Configuration) (change : Change) (guid : List ℕ) (element p
       let plan = element_after (takes_revertible config change) change before.plan in
       let same : element ≡ 0 + element = omega arith in
       let here : (if nat_eq element (0 + element) then option_map (element_after (takes_revertible config change) change) (Some before.plan) else Some before.plan) ≡ Some plan =
-      ap (λ (b : Bool). if b then Some plan else Some before.plan) (same_test element (0 + element) same) in
+      ap (λ (b : Bool). if b then Some plan else Some before.plan) (eq-eqb element (0 + element) same) in
       let there : slice_get (one_after config change all found.0 before.array).elements element ≡ Some (Some plan) =
       ap (λ (b : Bool). slice_get (if b then named_after (takes_revertible config change) change before.array else before.array).elements element) own
       ∙ ap (λ (one : Array). slice_get one.elements element) (rebuilds (takes_revertible config change) before.array)
@@ -97,7 +97,7 @@ module _ (config : Configuration) (guid : List ℕ) (element position : ℕ) whe
   on_begun old reference start sequence before =
       (on_after config (Begin guid element position reference start) guid element position (extents (kept_and_added config (Begin guid element position reference start))) (begun_table reference start)
       (λ key. refl) (λ revertible array. refl) sequence old (new_position reference start) before
-      (begun_by (nat_eq position (0 + position)) reference start before.held (same_test position (0 + position) (omega arith)))).0
+      (begun_by (nat_eq position (0 + position)) reference start before.held (eq-eqb position (0 + position) (omega arith)))).0
 
   pub begun_distinct : (reference start sequence : ℕ) → IsDistinct same_guid (keys_of config.arrays) → IsDistinct same_guid (keys_of (changed_at config (Begin guid element position reference start) sequence).arrays)
   begun_distinct reference start sequence =
@@ -111,7 +111,7 @@ module _ (config : Configuration) (guid : List ℕ) (element position : ℕ) whe
       on_after config (Return guid element position disk start) guid element position (extents (kept_and_added config (Return guid element position disk start))) (table_is guid element position disk start config)
       (λ key. refl) (λ revertible array. refl) sequence old (moved_position disk start) before
       (returned_is position disk start (0 + position) before.held
-      ∙ ap (λ (b : Bool). if b then moved_position disk start else before.held) (same_test position (0 + position) (omega arith)))
+      ∙ ap (λ (b : Bool). if b then moved_position disk start else before.held) (eq-eqb position (0 + position) (omega arith)))
 
 -- ---- members
 

@@ -1,21 +1,11 @@
 -- An array of which no disk holds two positions, where one of them goes to a disk that holds none.
-use Rattle.std.proofs.Common.{◌≡◌, ◌∙◌, ℕ, Bool, true, false, ◌||◌, ◌==◌, List, [], ◌∷◌, ◌++◌, map, nat_eq, refl, sym, ap, arith}
-use Rattle.std.proofs.lemmas.Bool.{false≢true}
+use Rattle.std.proofs.Common.{◌≡◌, ◌∙◌, ℕ, Bool, false, ◌==◌, List, [], ◌∷◌, ◌++◌, map, nat_eq, refl, sym, ap}
+use Rattle.std.proofs.lemmas.Bool.{or_from, or_parts}
 use Rattle.std.specs.List.{list_any}
+use Rattle.ddf_lemmas.proofs.Tests.{eqb_false_turned}
 use Rattle.ddf_config.specs.declared.extent.Extent.{Extent}
 use Rattle.ddf_plan.specs.CreateRefusal.{names_twice}
 use Rattle.ddf_availability.proofs.Moves.{IsMoved}
-
-neither : (a b : Bool) → (a || b) ≡ false → (a ≡ false) × (b ≡ false)
-neither true b h = absurd (false≢true (sym h))
-neither false b h = (refl, h)
-
-either_none : (a b : Bool) → a ≡ false → b ≡ false → (a || b) ≡ false
-either_none true b h k = absurd (false≢true (sym h))
-either_none false b h k = k
-
-turned : (a b : ℕ) → nat_eq a b ≡ false → nat_eq b a ≡ false
-turned a b h = grind arith
 
 abbrev named_by : List Extent → List ℕ
 named_by all = map (λ (one : Extent). one.reference) all
@@ -27,26 +17,26 @@ lie_on all reference = list_any (λ (one : Extent). one.reference == reference) 
 away_from : (reference : ℕ) (all : List Extent) → lie_on all reference ≡ false → list_any (nat_eq reference) (named_by all) ≡ false
 away_from reference [] h = refl
 away_from reference (one ∷ all) h =
-    let parts = neither (one.reference == reference) (lie_on all reference) h in
-    either_none (nat_eq reference one.reference) (list_any (nat_eq reference) (named_by all)) (turned one.reference reference parts.0) (away_from reference all parts.1)
+    let parts = or_parts (one.reference == reference) (lie_on all reference) h in
+    or_from (nat_eq reference one.reference) (list_any (nat_eq reference) (named_by all)) (eqb_false_turned one.reference reference parts.0) (away_from reference all parts.1)
 
 module _ (old found : Extent) (post : List Extent) where
   -- a disk that isn't among them isn't with another one among them
   not_among : (x : ℕ) (pre : List Extent) → nat_eq x found.reference ≡ false → list_any (nat_eq x) (named_by (pre ++ old ∷ post)) ≡ false → list_any (nat_eq x) (named_by (pre ++ found ∷ post)) ≡ false
-  not_among x [] other h = either_none (nat_eq x found.reference) (list_any (nat_eq x) (named_by post)) other (neither (nat_eq x old.reference) (list_any (nat_eq x) (named_by post)) h).1
+  not_among x [] other h = or_from (nat_eq x found.reference) (list_any (nat_eq x) (named_by post)) other (or_parts (nat_eq x old.reference) (list_any (nat_eq x) (named_by post)) h).1
   not_among x (one ∷ pre) other h =
-      let parts = neither (nat_eq x one.reference) (list_any (nat_eq x) (named_by (pre ++ old ∷ post))) h in
-      either_none (nat_eq x one.reference) (list_any (nat_eq x) (named_by (pre ++ found ∷ post))) parts.0 (not_among x pre other parts.1)
+      let parts = or_parts (nat_eq x one.reference) (list_any (nat_eq x) (named_by (pre ++ old ∷ post))) h in
+      or_from (nat_eq x one.reference) (list_any (nat_eq x) (named_by (pre ++ found ∷ post))) parts.0 (not_among x pre other parts.1)
 
   still_once : (pre : List Extent) → lie_on (pre ++ old ∷ post) found.reference ≡ false → names_twice (named_by (pre ++ old ∷ post)) ≡ false → names_twice (named_by (pre ++ found ∷ post)) ≡ false
   still_once [] away h =
-      let rest = neither (old.reference == found.reference) (lie_on post found.reference) away in
-      let once = neither (list_any (nat_eq old.reference) (named_by post)) (names_twice (named_by post)) h in
-      either_none (list_any (nat_eq found.reference) (named_by post)) (names_twice (named_by post)) (away_from found.reference post rest.1) once.1
+      let rest = or_parts (old.reference == found.reference) (lie_on post found.reference) away in
+      let once = or_parts (list_any (nat_eq old.reference) (named_by post)) (names_twice (named_by post)) h in
+      or_from (list_any (nat_eq found.reference) (named_by post)) (names_twice (named_by post)) (away_from found.reference post rest.1) once.1
   still_once (one ∷ pre) away h =
-      let rest = neither (one.reference == found.reference) (lie_on (pre ++ old ∷ post) found.reference) away in
-      let once = neither (list_any (nat_eq one.reference) (named_by (pre ++ old ∷ post))) (names_twice (named_by (pre ++ old ∷ post))) h in
-      either_none (list_any (nat_eq one.reference) (named_by (pre ++ found ∷ post))) (names_twice (named_by (pre ++ found ∷ post))) (not_among one.reference pre rest.0 once.0) (still_once pre rest.1 once.1)
+      let rest = or_parts (one.reference == found.reference) (lie_on (pre ++ old ∷ post) found.reference) away in
+      let once = or_parts (list_any (nat_eq one.reference) (named_by (pre ++ old ∷ post))) (names_twice (named_by (pre ++ old ∷ post))) h in
+      or_from (list_any (nat_eq one.reference) (named_by (pre ++ found ∷ post))) (names_twice (named_by (pre ++ found ∷ post))) (not_among one.reference pre rest.0 once.0) (still_once pre rest.1 once.1)
 
 -- no disk is named twice where one is replaced by another that isn't named
 pub once_moved : (old found : Extent) (before after : List Extent) → IsMoved old found before after → lie_on before found.reference ≡ false → names_twice (named_by before) ≡ false → names_twice (named_by after) ≡ false

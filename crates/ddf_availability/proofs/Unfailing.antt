@@ -1,11 +1,11 @@
 -- Over disks in memory of which no call is listed to fail no read fails of a disk from which an array is read.
-use Rattle.std.proofs.Common.{◌≡◌, ◌∙◌, ◌⊎◌, ℕ, zero, suc, ◌+◌, ◌-◌, ◌^◌, ◌<◌, ◌≤◌, Bool, true, false, List, [], ◌∷◌, length, map, Option, Some, None, Result, Ok, Err, refl, sym, ap, subst, inl, inr, arith}
+use Rattle.std.proofs.Common.{◌≡◌, ◌∙◌, ◌⊎◌, ℕ, zero, suc, ◌+◌, ◌-◌, ◌^◌, ◌<◌, ◌≤◌, true, false, List, [], ◌∷◌, length, Option, Some, None, Result, Ok, refl, sym, ap, subst, inl, inr, arith}
 use Rattle.std.proofs.lemmas.Bool.{false_from_ne_true}
 use Rattle.std.specs.Prelude.{option_map, slice_get, slice_index, slice_index_or}
 use Rattle.std.specs.List.{cons_option}
 use Rattle.std.specs.Option.{option_and_then}
+use Rattle.std.proofs.lemmas.Option.{slice_get_within}
 use Rattle.ddf_bay.specs.Memory.{disks_of}
-use Rattle.ddf_bay.specs.State.{BayState}
 use Rattle.ddf_bay.specs.declared.memory.MemoryBay.{MemoryBay}
 use Rattle.ddf_config.specs.declared.seat.Seat.{Seat}
 use Rattle.ddf_copy.specs.declared.copy.DiskCopy.{DiskCopy}
@@ -14,19 +14,18 @@ use Rattle.ddf_copy.specs.Copies.{standing_copy}
 use Rattle.ddf_array.proofs.Fits.{place_seat}
 use Rattle.ddf_read.specs.Reading.{IsOn, NoneFailed}
 use Rattle.ddf_read.specs.Stretches.{HaveCopies}
-use Rattle.ddf_group.specs.declared.answer.Assembled.{Assembled}
 use Rattle.ddf_group.specs.declared.answer.Assembly.{Assembly}
-use Rattle.ddf_group.specs.Assembled.{assembled}
-use Rattle.ddf_group.specs.Shown.{shown_of}
 use Rattle.ddf_seats.specs.Group.{GroupValue, copy_at, seat_at, seat_of, seats_of}
-use Rattle.ddf_assembly.specs.Group.{group_as, group_of, group_or_fault}
-use Rattle.ddf_assembly.specs.Slots.{newest_from}
+use Rattle.ddf_assembly.specs.Group.{group_of}
 use Rattle.ddf_recovery.specs.Recovery.{trusted_seats}
 use Rattle.ddf_recovery.proofs.Trusted.{trusted_there}
-use Rattle.ddf_answer.specs.declared.failure.Failure.TheVariants.{Conflict, Disk, Memory, Refused, Split}
+use Rattle.ddf_history_steps.proofs.RecoveringLeaders.{length_read}
+use Rattle.ddf_answer.specs.declared.failure.Failure.TheVariants.{Memory}
 use Rattle.ddf_answer.specs.Call.{work_of}
 use Rattle.ddf_read_commands.specs.Read.{CallsOfReading, HasNoPlace, HasRead, IsReadable, Outcome, is_unread, room_for}
-use Rattle.ddf_read_commands.specs.Read.Outcome.{CutShort, NotRead, Stopped, Whole}
+use Rattle.ddf_read_commands.specs.Read.Outcome.{NotRead}
+use Rattle.ddf_read_commands.proofs.Common.{read_memory}
+use Rattle.ddf_read_commands.proofs.LeftOut.{seats_are}
 use Rattle.ddf_history_memory.specs.Histories.{GoesWell}
 use Rattle.ddf_history_memory.proofs.Slots.{becomes, still_tells}
 use Rattle.ddf_availability.specs.Serving.{GivesBlocks, IsServing, most_reads}
@@ -36,20 +35,6 @@ use Rattle.ddf_availability.proofs.Giving.{call_gives}
 
 -- ---- the slots of seats
 
-seats_by : (newest : List (Option Newest)) (found : Result Assembled Assembly) (group : GroupValue) → group_or_fault newest found ≡ Ok group → (slots : List ℕ) × (seats_of newest slots ≡ group.seats)
-seats_by newest (Ok found) group e =
-    let same : group_as newest found ≡ group = cc in (found.seats, ap (λ (g : GroupValue). g.seats) same)
-seats_by newest (Err fault) group e = absurd cc
-
-seats_are : (newest : List (Option Newest)) (named : Option (List ℕ)) (group : GroupValue) → group_of newest named ≡ Ok group → (slots : List ℕ) × (seats_of newest slots ≡ group.seats)
-unfolding group_of
-seats_are newest named group e = seats_by newest (assembled (map shown_of newest) named) group e
-
-get_below : {X : Type 0} (xs : List X) (k : ℕ) (x : X) → slice_get xs k ≡ Some x → k < length xs
-get_below [] k x at = absurd cc
-get_below (first ∷ xs) zero x at = omega arith
-get_below (first ∷ xs) (suc k) x at = let less = get_below xs k x at in omega (arith, less)
-
 module _ (newest : List (Option Newest)) where
   -- a slot has its place in the list
   abbrev IsThere : ℕ → Type 0
@@ -57,7 +42,7 @@ module _ (newest : List (Option Newest)) where
 
   copy_there : (slot : ℕ) (found : Option (Option Newest)) (copy : DiskCopy) → slice_get newest slot ≡ found → option_and_then (λ one. option_and_then standing_copy one) found ≡ Some copy → IsThere slot
   copy_there slot None copy is at = absurd cc
-  copy_there slot (Some one) copy is at = get_below newest slot one is
+  copy_there slot (Some one) copy is at = slice_get_within newest slot one is
 
   seat_by : (slot : ℕ) (found : Option DiskCopy) (seat : Seat) → copy_at newest slot ≡ found → option_map (seat_of slot) found ≡ Some seat → IsThere seat.slot
   seat_by slot None seat is e = absurd cc
@@ -79,22 +64,6 @@ module _ (newest : List (Option Newest)) where
   seats_there (slot ∷ slots) k seat at =
       one_there (seat_at newest slot) (seats_of newest slots) (λ one is. seat_by slot (copy_at newest slot) one refl is) (seats_there slots) k seat at
 
-newest_long : {D : Type 0} (disks : BayState D) (first : ℕ) (left : List Bool) → length (newest_from disks first left) ≡ length left
-newest_long disks first [] = refl
-newest_long disks first (out ∷ left) = ap suc (newest_long disks (suc first) left)
-
--- ---- memory or not
-
-memory_or : (outcome : Outcome) → (outcome ≡ NotRead Memory) ⊎ (outcome ≡ NotRead Memory → ⊥)
-memory_or (Whole sectors) = inr (λ is. cc)
-memory_or (NotRead (Refused refusal)) = inr (λ is. cc)
-memory_or (NotRead (Disk slot)) = inr (λ is. cc)
-memory_or (NotRead (Conflict i j sequence differ)) = inr (λ is. cc)
-memory_or (NotRead (Split i j)) = inr (λ is. cc)
-memory_or (NotRead Memory) = inl refl
-memory_or (Stopped front slot) = inr (λ is. cc)
-memory_or (CutShort front) = inr (λ is. cc)
-
 -- ---- a read over disks in memory
 
 module _ (old exit : MemoryBay) (well : GoesWell old exit) (told : (disks_of old).tells_left) (named : Option (List ℕ)) (word : List ℕ) (start count : ℕ) (outcome : Outcome)
@@ -107,7 +76,7 @@ module _ (old exit : MemoryBay) (well : GoesWell old exit) (told : (disks_of old
       let seats = seats_are read.newest named found is_found in
       let own = trusted_there found seat.0 seat.1.0 seat.1.1 in
       let there = seats_there read.newest seats.0 own.0 seat.1.0 (ap (λ (l : List Seat). slice_get l own.0) seats.1 ∙ own.1) in
-      let long = ap (λ (l : List (Option Newest)). length l) (read.read tt) ∙ newest_long (disks_of old) 0 read.left in
+      let long = ap (λ (l : List (Option Newest)). length l) (read.read tt) ∙ length_read (disks_of old) 0 read.left in
       subst (λ (n : ℕ). slot < n) long (subst (λ (s : ℕ). s < length read.newest) seat.1.2 there)
 
   -- and isn't left out.
@@ -131,7 +100,7 @@ module _ (old exit : MemoryBay) (well : GoesWell old exit) (told : (disks_of old
         omega (arith, low, last, same, told)
 
   pub memory_gives : GivesBlocks (disks_of old).held serving.volume start count outcome
-  memory_gives = by (memory_or outcome)
+  memory_gives = by (read_memory outcome)
     where
       by : (outcome ≡ NotRead Memory) ⊎ (outcome ≡ NotRead Memory → ⊥) → GivesBlocks (disks_of old).held serving.volume start count outcome
       by (inl memory) = subst (GivesBlocks (disks_of old).held serving.volume start count) (sym memory) refl
@@ -152,7 +121,7 @@ module _ (old exit : MemoryBay) (well : GoesWell old exit) (told : (disks_of old
         omega (arith, few, more)
 
     pub memory_counted : (disks_of exit).calls ≤ (disks_of old).calls + most_reads (length (disks_of old).sizes) count
-    memory_counted = by (memory_or outcome)
+    memory_counted = by (read_memory outcome)
       where
         by : (outcome ≡ NotRead Memory) ⊎ (outcome ≡ NotRead Memory → ⊥) → (disks_of exit).calls ≤ (disks_of old).calls + most_reads (length (disks_of old).sizes) count
         by (inl memory) = let looked = read.looks (ap is_unread memory) in omega (arith, looked)

@@ -1,11 +1,11 @@
 -- An array that can be used can be used once a position has gone to another disk.
-use Rattle.std.proofs.Common.{◌≡◌, ◌∙◌, ℕ, Bool, true, false, not, ◌&&◌, ◌||◌, cond, List, [], ◌∷◌, Option, Some, None, refl, sym, ap}
-use Rattle.std.proofs.lemmas.Bool.{and_from, and_parts, false≢true}
+use Rattle.std.proofs.Common.{◌≡◌, ◌∙◌, ℕ, Bool, true, false, not, ◌&&◌, List, [], ◌∷◌, Option, Some, None, refl, sym, ap}
+use Rattle.std.proofs.lemmas.Bool.{and_from, and_parts, not-false}
 use Rattle.std.proofs.lemmas.Cmp.{nat_list_eq_equiv}
-use Rattle.std.proofs.lemmas.List.Folds.{list_all-append}
 use Rattle.std.specs.Prelude.{slice_get}
 use Rattle.std.specs.Map.{keys_of, lookup}
 use Rattle.std.specs.List.{IsDistinct, list_all, list_any}
+use Rattle.ddf_lemmas.proofs.Lists.{none_is, same_lookup}
 use Rattle.ddf_config.specs.declared.array.Array.{Array}
 use Rattle.ddf_config.specs.declared.element.Position.{Position}
 use Rattle.ddf_config.specs.declared.extent.Extent.{Extent}
@@ -30,43 +30,10 @@ use Rattle.ddf_plan.specs.Members.{members_after}
 use Rattle.ddf_repair.proofs.Numbers.{tiers_kept}
 use Rattle.ddf_repair.proofs.Replaced.{IsReplaced, is_clear, replaced_all, same, still_lie}
 use Rattle.ddf_repair.proofs.Usable.{all_lie_kept, looked_up, one_numbers}
+use Rattle.ddf_repair.proofs.BegunUsable.{of_one, three_none}
 use Rattle.ddf_availability.proofs.Moves.{array_moved, array_stays, made_in, moved_in, moved_position, replaced, table_is}
 
 -- ---- tests
-
-three_none : (a : Option Refusal) (b c : Bool) → first_refusal (a ∷ refuse_if b Shape ∷ refuse_if c Lost ∷ []) ≡ None → (a ≡ None) × (b ≡ false) × (c ≡ false)
-three_none None false false h = (refl, refl, refl)
-three_none None false true h = absurd cc
-three_none None true c h = absurd cc
-three_none (Some refusal) b c h = absurd cc
-
-not_not : (b : Bool) → not b ≡ false → b ≡ true
-not_not true h = refl
-not_not false h = absurd (false≢true (sym h))
-
-none_is : {X : Type 0} (p : X → Bool) (xs : List X) → not (list_any p xs) ≡ list_all (λ x. not (p x)) xs
-none_is p [] = refl
-none_is p (x ∷ xs) = by (p x) (none_is p xs)
-  where
-    by : (b : Bool) → not (list_any p xs) ≡ list_all (λ y. not (p y)) xs → not (b || list_any p xs) ≡ (not b && list_all (λ y. not (p y)) xs)
-    by true rest = refl
-    by false rest = rest
-
--- what holds of all extents holds of those of an array
-of_one : (p : Extent → Bool) (test : List ℕ → Bool) (es : List (List ℕ × Array)) (array : Array) → list_all p (extents es) ≡ true → lookup test es ≡ Some array → list_all p (array_extents array) ≡ true
-of_one p test [] array all there = absurd cc
-of_one p test (e ∷ es) array all there =
-    by (test e.0) there (and_parts (list_all p (array_extents e.1)) (list_all p (extents es)) (sym (list_all-append p (array_extents e.1) (extents es)) ∙ all)) (of_one p test es array)
-  where
-    by : (b : Bool) → cond b (Some e.1) (lookup test es) ≡ Some array → (list_all p (array_extents e.1) ≡ true) × (list_all p (extents es) ≡ true)
-        → (list_all p (extents es) ≡ true → lookup test es ≡ Some array → list_all p (array_extents array) ≡ true) → list_all p (array_extents array) ≡ true
-    by true found parts rest = let equal : e.1 ≡ array = cc in ap (λ (one : Array). list_all p (array_extents one)) (sym equal) ∙ parts.0
-    by false found parts rest = rest parts.1 found
-
-same_lookup : {K X : Type 0} (test other : K → Bool) → ((k : K) → test k ≡ other k) → (es : List (K × X)) → lookup test es ≡ lookup other es
-same_lookup test other agree [] = refl
-same_lookup {K} {X} test other agree (e ∷ es) =
-    ap (λ (b : Bool). cond b (Some e.1) (lookup test es)) (agree e.0) ∙ ap (λ (rest : Option X). cond (other e.0) (Some e.1) rest) (same_lookup test other agree es)
 
 -- an array that is found of a GUID is the one that a GUID of the same bytes names
 pub one_array : (guid asked key : List ℕ) (es : List (List ℕ × Array)) (named array : Array) → lookup (same_guid guid) es ≡ Some named → lookup (same_guid asked) es ≡ Some array → same_guid asked key ≡ true → same_guid guid key ≡ true
@@ -111,7 +78,7 @@ module _ (config : Configuration) (guid : List ℕ) (element position disk start
       let next = made at.0 array in
       let keeps = one_numbers config change (extents (kept_and_added config change)) at.0 array in
       let before = three_none (unserved_level asked array) (not (is_served_on config.members seats (extents config.arrays) array)) (not (is_complete array)) usable in
-      let served = and_parts (is_served config.members (extents config.arrays) array) (not (list_any (passes_floor seats) (array_extents array))) (not_not (is_served_on config.members seats (extents config.arrays) array) before.1) in
+      let served = and_parts (is_served config.members (extents config.arrays) array) (not (list_any (passes_floor seats) (array_extents array))) (not-false (is_served_on config.members seats (extents config.arrays) array) before.1) in
       let lying = and_parts (has_shapes array && has_tiers array) (list_all (lies_well config.members (extents config.arrays)) (array_extents array)) served.0 in
       let shaped = and_parts (has_shapes array) (has_tiers array) lying.0 in
       let free = is_clear config.members (extents config.arrays) found clear in
@@ -129,5 +96,5 @@ module _ (config : Configuration) (guid : List ℕ) (element position disk start
         ap (lookup (same_guid asked)) (table_is guid element position disk start config) ∙ at.2,
         ap (λ (level : Option Refusal). first_refusal (level ∷ refuse_if (not (is_served_on (members_after config change) seats (extents (arrays_after config change)) next)) Shape ∷ refuse_if (not (is_complete next)) Lost ∷ [])) (keeps.levels asked ∙ before.0)
             ∙ ap (λ (b : Bool). first_refusal (None ∷ refuse_if (not b) Shape ∷ refuse_if (not (is_complete next)) Lost ∷ [])) now
-            ∙ ap (λ (b : Bool). first_refusal (None ∷ None ∷ refuse_if (not b) Lost ∷ [])) (keeps.complete ∙ not_not (is_complete array) before.2),
+            ∙ ap (λ (b : Bool). first_refusal (None ∷ None ∷ refuse_if (not b) Lost ∷ [])) (keeps.complete ∙ not-false (is_complete array) before.2),
       )

@@ -96,10 +96,6 @@ module _ (size spares : ℕ) (kept : List Stretch) where
       (λ later. wrong_entry (place + 1) blocks unfit later)
       (entry_case place (fault_of size spares kept block) (first_wrong size spares kept (place + 1) blocks) unfit h)
 
-pub none_of : (found : Option Unfit) → is_some found ≡ false → found ≡ None
-none_of None is = refl
-none_of (Some unfit) is = absurd cc
-
 -- ---- of a log
 
 module _ (log : LogValue) (size : ℕ) (kept : List Stretch) (last : ℕ) (some : length log.entries ≡ 0 → ⊥) where

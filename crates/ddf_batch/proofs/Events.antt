@@ -1,5 +1,5 @@
 -- Lines of a batch are events of histories.
-use Rattle.std.proofs.Common.{◌≡◌, ◌∙◌, ◌||◌, ap, inl, ⊎_elim, ℕ, ◌≤◌, Bool, true, false, nat_lt, List, [], ◌∷◌, Option, Result, Ok, Err, refl, sym, subst, arith}
+use Rattle.std.proofs.Common.{◌≡◌, ◌∙◌, ◌||◌, ap, inl, ℕ, ◌≤◌, Bool, true, false, nat_lt, List, [], ◌∷◌, Option, Result, Ok, Err, refl, sym, subst, arith}
 use Rattle.std.proofs.lemmas.Bool.{false≢true}
 use Rattle.ddf_bytes.specs.declared.stamp.Stamp.{Stamp}
 use Rattle.ddf_bytes.specs.Streams.{SinkState}
@@ -22,11 +22,8 @@ use Rattle.ddf_words.specs.Traits.{traits_of}
 use Rattle.ddf_words.specs.Words.{Word}
 use Rattle.ddf_words.specs.declared.command.Command.{Command}
 use Rattle.ddf_words.specs.declared.command.Command.TheVariants.{Assemble, Change, Copyback, Examine, Import, Label, Read, Rebuild, Resync, Scrub, Show, Write}
-use Rattle.ddf_answer.specs.Answers.{IsToldFailure}
 use Rattle.ddf_answer.specs.Call.{Answer, answer_of, work_of}
 use Rattle.ddf_answer.specs.declared.failure.Failure.{Failure}
-use Rattle.ddf_answer.specs.declared.failure.Failure.TheVariants.{Conflict, Disk, Memory, Refused, Split}
-use Rattle.ddf_answer.specs.Tells.{IsCutShort}
 use Rattle.ddf_group_commands.proofs.Beside.{reads_beside}
 use Rattle.ddf_group_commands.specs.Assemble.{IsTold}
 use Rattle.ddf_group_commands.specs.Change.{IsToldChange, is_done}
@@ -34,33 +31,24 @@ use Rattle.ddf_group_commands.specs.Requests.{linux_found}
 use Rattle.ddf_command.specs.History.{GroupCall, IsCall, IsCut, IsEnd, IsOther, Leaves, OtherCall, kept_by, past_at}
 use Rattle.ddf_command.specs.Run.{IsCommandDone}
 use Rattle.ddf_words.specs.Lines.{is_for_lines}
+use Rattle.ddf_answer.proofs.Common.{no_failure}
 use Rattle.ddf_batch.specs.Batch.{AreLinesRun, Going, goes_on, point}
 use Rattle.ddf_batch.specs.History.{AreCallsOf, Behind, IsLineOf, LineJoined, LineTook, is_join}
 use Rattle.ddf_batch.specs.Line.{Point, no_input}
 
 -- ---- status 0 is that of a call that was done
 
-short : (code : ℕ) → IsCutShort code → code ≡ 0 → ⊥
-short code cut zero = ⊎_elim (λ five. omega (arith, zero, five)) (λ six. omega (arith, zero, six)) cut
-
-failed : (failure : Failure) (answer : Answer) → IsToldFailure failure answer → answer.status ≡ 0 → ⊥
-failed (Refused refusal) answer told zero = ⊎_elim (λ one. omega (arith, zero, one)) (λ cut. short answer.status cut zero) told.ends
-failed (Disk slot) answer told zero = ⊎_elim (λ three. omega (arith, zero, three)) (λ six. omega (arith, zero, six)) told.ends
-failed (Conflict i j sequence differ) answer told zero = ⊎_elim (λ four. omega (arith, zero, four)) (λ cut. short answer.status cut zero) told.ends
-failed (Split i j) answer told zero = ⊎_elim (λ four. omega (arith, zero, four)) (λ cut. short answer.status cut zero) told.ends
-failed Memory answer told zero = omega (arith, zero, told.0)
-
 -- At status 0 a change was done,
 pub changed_done : (outcome : Result ℕ Failure) (answer : Answer) → IsToldChange outcome answer → answer.status ≡ 0 → is_done outcome ≡ true
 changed_done (Ok sequence) answer told zero = refl
-changed_done (Err failure) answer told zero = absurd (failed failure answer told zero)
+changed_done (Err failure) answer told zero = absurd (no_failure failure answer told zero)
 
 -- and so was a recovery.
 pub told_done : (found : Result GroupValue Assembly) (outcome : Result ℕ Failure) (answer : Answer) → IsTold found outcome answer → answer.status ≡ 0 → is_done outcome ≡ true
 told_done (Ok group) (Ok sequence) answer told zero = refl
 told_done (Err fault) (Ok sequence) answer told zero = refl
-told_done (Ok group) (Err failure) answer told zero = absurd (failed failure answer told zero)
-told_done (Err fault) (Err failure) answer told zero = absurd (failed failure answer told zero)
+told_done (Ok group) (Err failure) answer told zero = absurd (no_failure failure answer told zero)
+told_done (Err fault) (Err failure) answer told zero = absurd (no_failure failure answer told zero)
 
 -- ---- what it took
 

@@ -1,7 +1,7 @@
 -- How one line of a batch is run.
 use Rattle.std.proofs.Common.{◌≡◌, ◌∙◌, ◌⊎◌, inl, inr, ⊎_elim, ℕ, List, [], Option, Result, Ok, Err, true, false, refl, sym, subst, ap, arith}
 use Rattle.std.specs.Prelude.{nat_le}
-use Rattle.std.proofs.lemmas.Bool.{cases_lt, false≢true}
+use Rattle.std.proofs.lemmas.Bool.{false≢true}
 use Rattle.std.proofs.lemmas.List.{append-nil}
 use Rattle.ddf_bytes.specs.declared.stamp.Stamp.{Stamp}
 use Rattle.ddf_bytes.specs.Streams.{SinkRose, SinkState}
@@ -23,14 +23,7 @@ use Rattle.ddf_answer.specs.Tells.{EndsWith}
 use Rattle.ddf_command.specs.Run.{IsCommandDone}
 use Rattle.ddf_words.specs.Lines.{AsksFor, IsLine, is_for_lines}
 use Rattle.ddf_batch.specs.Line.{IsLineRun, Point, no_input}
-use Rattle.ddf_command.proofs.Endings.{done_nothing}
-
--- words go wrong at one place
-pub one_place : (accepted : List Word → Type 0) (words : List Word) (p q : ℕ) → GoWrongAt accepted words p → GoWrongAt accepted words q → p ≡ q
-one_place accepted words p q one other = ⊎_elim
-    (λ under. absurd (one.no_longer q under other.within other.good))
-    (λ from. ⊎_elim (λ over. absurd (other.no_longer p over one.within one.good)) (λ upto. omega (arith, from, upto)) (cases_lt q p))
-    (cases_lt p q)
+use Rattle.ddf_command.proofs.Endings.{done_nothing, one_place}
 
 few : (code number : ℕ) → code ≡ number → nat_le number 6 ≡ true → nat_le code 6 ≡ true
 few code number same is = ap (λ (n : ℕ). nat_le n 6) same ∙ is

@@ -2,6 +2,7 @@
 use Rattle.std.proofs.Common.{◌≡◌, ℕ, zero, suc, ◌<◌, List, [], ◌∷◌, ◌++◌, length, get_or, Bool, if◌then◌else◌, refl, sym, ◌∙◌, ap, arith}
 use Rattle.std.specs.Prelude.{Option, Some, None, slice_get, true, false}
 use Rattle.std.proofs.lemmas.Grind.{common_steps}
+use Rattle.ddf_lemmas.proofs.Lists.{get_last}
 use Rattle.ddf_bay.specs.declared.logged_write.LoggedWrite.{LoggedWrite}
 use Rattle.ddf_bay.specs.Logged.{is_at, newest, settled}
 use Rattle.ddf_bay.specs.LoggedLaws.{newest_sync}
@@ -21,10 +22,6 @@ newest_push : (rs : List LoggedWrite) (r : LoggedWrite) (s l : ℕ) (before : Li
 newest_push [] r s l before = refl
 newest_push (x ∷ rs) r s l before = newest_push rs r s l (if is_at x s l then x.bytes else before)
 
-get_push_last : (rs : List LoggedWrite) (r : LoggedWrite) → slice_get (rs ++ r ∷ []) (length rs) ≡ Some r
-get_push_last [] r = refl
-get_push_last (x ∷ rs) r = get_push_last rs r
-
 get_push_old : (rs : List LoggedWrite) (r : LoggedWrite) (i : ℕ) → i < length rs → slice_get (rs ++ r ∷ []) i ≡ slice_get rs i
 get_push_old [] r i lt = absurd (omega (arith, lt))
 get_push_old (x ∷ rs) r zero lt = refl
@@ -35,7 +32,7 @@ bytes_push rs r None before within = refl
 bytes_push rs r (Some i) before within = ap (λ (o : Option LoggedWrite). bytes_or o before) (get_push_old rs r i (within i refl))
 
 bytes_last : (rs : List LoggedWrite) (r : LoggedWrite) (before : List ℕ) → bytes_at (rs ++ r ∷ []) (Some (length rs)) before ≡ r.bytes
-bytes_last rs r before = ap (λ (o : Option LoggedWrite). bytes_or o before) (get_push_last rs r)
+bytes_last rs r before = ap (λ (o : Option LoggedWrite). bytes_or o before) (get_last rs r)
 
 module _ (noted noted' : ℕ → ℕ → Option ℕ) (rs : List LoggedWrite) (r : LoggedWrite) (notes : (s l : ℕ) → noted' s l ≡ (if is_at r s l then Some (length rs) else noted s l)) (within : IsWithin noted rs) where
   pushed : (b : Bool) (s l : ℕ) (before : List ℕ) → newest rs s l before ≡ bytes_at rs (noted s l) before

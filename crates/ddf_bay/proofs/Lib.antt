@@ -5,6 +5,5 @@ pub mod Steps
 pub mod Looks
 mod Finding
 mod Opened
-mod Zeros
 pub mod MemorySteps
 pub mod Fronts

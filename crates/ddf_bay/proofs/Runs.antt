@@ -1,7 +1,7 @@
 -- Reading an image after a run was put in it.
 use Rattle.std.proofs.Common.{◌≡◌, ◌≢◌, ◌⊎◌, ℕ, ◌+◌, ◌-◌, ◌<◌, ◌≤◌, List, [], ◌∷◌, length, get_or, take, inl, inr, ⊎_elim, refl, sym, ◌∙◌, arith, get_or-take, length-take}
 use Rattle.std.proofs.Math.Path.{fun_ext}
-use Rattle.std.proofs.lemmas.Bool.{cases_lt}
+use Rattle.std.proofs.lemmas.Bool.{cases_lt, cases_eq}
 use Rattle.std.proofs.lemmas.Grind.{common_steps}
 use Rattle.ddf_bay.specs.Sectors.{Image, InRun, put_run}
 use Rattle.ddf_bay.specs.Moments.{Mixes}
@@ -19,9 +19,6 @@ module _ (image : Image) (slot lba : ℕ) (sectors : List (List ℕ)) where
   pub other : (s l : ℕ) → s ≢ slot → put_run image slot lba sectors s l ≡ image s l
   other s l differs = grind (arith, common_steps)
 
-same_or_not : (m n : ℕ) → (m ≡ n) ⊎ (m ≢ n)
-same_or_not m n = ⊎_elim (λ under. inr (λ e. omega (arith, e, under))) (λ from. ⊎_elim (λ over. inr (λ e. omega (arith, e, over))) (λ upto. inl (omega arith)) (cases_lt n m)) (cases_lt m n)
-
 -- after a run was put in, each sector is as it was or has the run's bytes
 pub put_mixes : (image : Image) (slot lba : ℕ) (sectors : List (List ℕ)) → Mixes image (put_run image slot lba sectors) slot lba sectors
 put_mixes image slot lba sectors s l = ⊎_elim
@@ -33,7 +30,7 @@ put_mixes image slot lba sectors s l = ⊎_elim
     (cases_lt l (lba + length sectors)))
     (cases_lt l lba))
     (λ differs. inl (other image slot lba sectors s l differs))
-    (same_or_not s slot)
+    (cases_eq s slot)
 
 -- a write leaves other slots as they were, failed or not
 pub mixes_other : (old new : Image) (slot lba : ℕ) (sectors : List (List ℕ)) → Mixes old new slot lba sectors → (s l : ℕ) → s ≢ slot → new s l ≡ old s l
@@ -82,7 +79,7 @@ module _ (slot lba : ℕ) (vs : List (List ℕ)) (i : ℕ) (d : List ℕ) (lt : 
       record { from = run.from; below = omega (arith, run.below, length_more, lt); are = run.are ∙ (rw get_or-take refl) }
 
   pub put_run_more : (image : Image) → put_run (put_run image slot lba (take i vs)) slot (lba + i) (get_or vs i d ∷ []) ≡ put_run image slot lba (take (i + 1) vs)
-  put_run_more image = fun_ext (λ s. fun_ext (λ l. ⊎_elim (here s l) (λ differs. other one slot (lba + i) (get_or vs i d ∷ []) s l differs ∙ other image slot lba (take i vs) s l differs ∙ sym (other image slot lba (take (i + 1) vs) s l differs)) (same_or_not s slot)))
+  put_run_more image = fun_ext (λ s. fun_ext (λ l. ⊎_elim (here s l) (λ differs. other one slot (lba + i) (get_or vs i d ∷ []) s l differs ∙ other image slot lba (take i vs) s l differs ∙ sym (other image slot lba (take (i + 1) vs) s l differs)) (cases_eq s slot)))
     where
       one : Image
       one = put_run image slot lba (take i vs)

@@ -1,10 +1,11 @@
 -- How the bytes that a stop may leave go on while logged writes are added and made sure, and through a stop.
-use Rattle.std.specs.Prelude.{◌≡◌, ◌≢◌, ◌⊎◌, ℕ, zero, suc, ◌+◌, ◌-◌, ◌<◌, ◌≤◌, List, [], ◌∷◌, ◌++◌, length, get_or, Bool, ◌&&◌, if◌then◌else◌, drop, IsTrue, true, false, ◌==◌, nat_lt, slice_index}
+use Rattle.std.specs.Prelude.{◌≡◌, ◌≢◌, ◌⊎◌, ℕ, zero, suc, ◌+◌, ◌-◌, ◌<◌, ◌≤◌, List, [], ◌∷◌, ◌++◌, length, get_or, Bool, ◌&&◌, if◌then◌else◌, drop, IsTrue, ◌==◌, nat_lt, slice_index}
 use Rattle.std.specs.List.{list_all}
 use Rattle.std.proofs.Common.{inl, inr, ⊎_elim, refl, sym, ◌∙◌, ap, arith}
 use Rattle.std.proofs.Math.Path.{fun_ext}
-use Rattle.std.proofs.lemmas.Bool.{cases_lt, false≢true}
+use Rattle.std.proofs.lemmas.Bool.{cases_lt}
 use Rattle.std.proofs.lemmas.Grind.{common_steps}
+use Rattle.ddf_lemmas.proofs.Tests.{both_parts}
 use Rattle.ddf_bay.specs.declared.logged_write.LoggedWrite.{LoggedWrite}
 use Rattle.ddf_bay.specs.Sectors.{InRun, IsWhole, put_run}
 use Rattle.ddf_bay.specs.Logged.{held_of, zeros, is_at, is_sure, newest, sure_bytes, IsPending, MayHold, are_past, are_whole, is_whole, settled, run_logged, survivors}
@@ -219,11 +220,6 @@ pending_after_sync m slot now (r ∷ rs) s l v lt h = grind (arith, common_steps
 pub left_after_sync : (m slot now : ℕ) (rs : List LoggedWrite) (s l : ℕ) (v : List ℕ) → m < now → MayHold m rs s l v → MayHold m (settled slot now rs) s l v
 left_after_sync m slot now rs s l v lt (inl e) = inl (e ∙ sym (sure_sync m slot now rs s l zeros lt))
 left_after_sync m slot now rs s l v lt (inr h) = inr (pending_after_sync m slot now rs s l v lt h)
-
--- Each write has the bytes of a whole sector, and so has what a stop may leave.
-both_parts : (a b : Bool) → IsTrue (a && b) → IsTrue a × IsTrue b
-both_parts true b both = (refl, both)
-both_parts false b both = absurd (false≢true both)
 
 sure_whole : (m : ℕ) (rs : List LoggedWrite) (s l : ℕ) (d : List ℕ) → IsTrue (are_whole rs) → IsTrue (is_whole d) → IsTrue (is_whole (sure_bytes m rs s l d))
 sure_whole m [] s l d whole own = own

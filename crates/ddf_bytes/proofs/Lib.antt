@@ -1,3 +1,4 @@
 mod Streams
 mod HexDigits
 pub mod Nones
+pub mod Common

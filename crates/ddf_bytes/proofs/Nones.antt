@@ -1,6 +1,5 @@
 -- What it says that there is none of several things.
 use Rattle.std.proofs.Common.{◌≡◌, Bool, true, false, not, List, [], ◌∷◌, Option, Some, None, refl}
-use Rattle.std.specs.Prelude.{option_map}
 use Rattle.std.specs.List.{AllByRecursion}
 use Rattle.ddf_bytes.specs.Choices.{when, first_of}
 
@@ -16,7 +15,3 @@ none_when false x h = refl
 pub none_when_not : {X : Type 0} (test : Bool) (x : X) → when (not test) x ≡ None → test ≡ true
 none_when_not true x h = refl
 none_when_not false x h = absurd cc
-
-pub none_map : {X Y : Type 0} (f : X → Y) (o : Option X) → option_map f o ≡ None → o ≡ None
-none_map f None h = refl
-none_map f (Some x) h = absurd cc

@@ -1,14 +1,16 @@
 -- The available cells of a block are those on its positions.
-use Rattle.std.proofs.Common.{◌≡◌, ◌∙◌, ℕ, zero, suc, ◌+◌, ◌<◌, Bool, true, false, List, [], ◌∷◌, Option, Some, None, refl, sym, ap, subst, arith, map, length, slice_get, ◌||◌, ◌&&◌}
+use Rattle.std.proofs.Common.{◌≡◌, ◌∙◌, ℕ, zero, suc, ◌<◌, Bool, true, false, List, [], ◌∷◌, Option, Some, None, refl, sym, ap, subst, arith, map, length, slice_get, ◌||◌, ◌&&◌}
 use Rattle.std.specs.Prelude.{◌==◌, option_and_then, if◌then◌else◌}
 use Rattle.std.specs.List.{range_with_len, list_any}
 use Rattle.std.proofs.lemmas.Bool.{eqb-true, eq-eqb}
 use Rattle.std.proofs.lemmas.Option.{slice_get_within}
+use Rattle.std.proofs.lemmas.Map.Keys.{any_passes_from_place}
+use Rattle.ddf_lemmas.proofs.Lists.{found_passes, get_filter_map, in_map, range_at}
+use Rattle.ddf_lemmas.proofs.Tests.{and_first, and_second}
 use Rattle.ddf_primary.specs.Levels.{IsShape}
 use Rattle.ddf_primary.specs.Cells as cells_of
 use Rattle.ddf_primary.proofs.Copies.{copy_at, copy_is, holds_on, on_holds}
 use Rattle.ddf_primary.proofs.ShapeFacts.{cell_facts}
-use Rattle.ddf_primary.proofs.Lists.{slice_get-range}
 use Rattle.ddf_secondary.specs.declared.level.SecondaryLevel.{SecondaryLevel}
 use Rattle.ddf_secondary.specs.declared.level.SecondaryLevel.TheVariants.{Striped, Mirrored, Concatenated, Spanned}
 use Rattle.ddf_secondary.specs.declared.spot.Spot.{Spot}
@@ -22,11 +24,10 @@ use Rattle.ddf_array.specs.Volume.{Volume, IsVolume, capacity}
 use Rattle.ddf_array.specs.Cells.{element_cells, elements_like, is_in_every, spots_like, block_spots}
 use Rattle.ddf_array.specs.Sources.{at_spot, copies, element_copies}
 use Rattle.ddf_array.specs.Rows.{block_at, holds}
-use Rattle.ddf_array.proofs.Bools.{and_first, and_second}
-use Rattle.ddf_array.proofs.Consistent.{at_part, position_within, to_filter, to_flat}
+use Rattle.ddf_array.proofs.Consistent.{at_part, position_within, to_flat, in_filter, in_flat}
 use Rattle.ddf_array.proofs.Elements.{parts_count}
 use Rattle.ddf_cells.specs.CellsOn.{cell_in, cell_of, cell_on}
-use Rattle.ddf_cells.proofs.Items.{in_flat, in_map, in_filter, passing, any_at, found_passes, finds}
+use Rattle.ddf_cells.proofs.Items.{passing, finds}
 use Rattle.ddf_cells.proofs.OnCells.{Sits, OnCell, on_cell, spot_of, in_every_holds, one_block}
 
 -- ---- the places that are alike
@@ -36,9 +37,6 @@ like_position : (every : Bool) (members position : ℕ) (k other : ℕ) → slic
 like_position true members position k other at = refl
 like_position false members position zero other at = let same : position ≡ other = cc in eq-eqb position other same
 like_position false members position (suc k) other at = absurd (cc)
-
-range_at : (n k : ℕ) → k < n → slice_get (range_with_len 0 n) k ≡ Some k
-range_at n k below = let same : 0 + k ≡ k = omega arith in slice_get-range 0 n k below ∙ ap Some same
 
 at_like : (every : Bool) (count one other : ℕ) → (every || (one == other)) ≡ true → other < count → (k : ℕ) × (slice_get (if every then range_with_len 0 count else one ∷ []) k ≡ Some other)
 at_like true count one other is below = (other, range_at count other below)
@@ -164,7 +162,7 @@ module _ (v : Volume) (known : IsVolume v) (block : ℕ) where
       let inner = cell.sits.inner in
       let spot = at_spots v known block element inner cell.sits.in_element (slice_get_within v.parts element part cell.sits.is_part) in
       let here = at_cells part inner (known.are_parts element part cell.sits.is_part).shape_is position cell.sector cell.sits.on_position in
-      let inside = to_filter (λ (c : ℕ × ℕ). site_at part.places c.0 c.1) (element_cells part.shape inner) here.0 (position, cell.sector) one here.1 cell.is_there in
+      let inside = get_filter_map (λ (c : ℕ × ℕ). site_at part.places c.0 c.1) (element_cells part.shape inner) here.0 (position, cell.sector) one here.1 cell.is_there in
       to_flat (at_spot v.parts element_copies) (block_spots v block) spot.0 inside.0 (spot_of element inner) one spot.1
       (ap (λ (l : List Site). slice_get l inside.0) (at_part v.parts element_copies (spot_of element inner) part cell.sits.is_part) ∙ inside.1)
 
@@ -218,9 +216,9 @@ module _ (v : Volume) (known : IsVolume v) (element position sector : ℕ) where
       let spot = at_spots v known block element inner sits.in_element (slice_get_within v.parts element part sits.is_part) in
       let here = at_cells part inner (known.are_parts element part sits.is_part).shape_is position sector sits.on_position in
       let inside : list_any (λ (cell : ℕ × ℕ). cell.0 == position && cell.1 == sector) (element_cells part.shape inner) ≡ true =
-      any_at (λ (cell : ℕ × ℕ). cell.0 == position && cell.1 == sector) (element_cells part.shape inner) here.0 (position, sector) here.1
+      any_passes_from_place (λ (cell : ℕ × ℕ). cell.0 == position && cell.1 == sector) (element_cells part.shape inner) here.0 (position, sector) here.1
       (and_both (position == position) (sector == sector) (eq-eqb position position refl) (eq-eqb sector sector refl)) in
-      any_at in_spot (block_spots v block) spot.0 (spot_of element inner) spot.1
+      any_passes_from_place in_spot (block_spots v block) spot.0 (spot_of element inner) spot.1
       (and_both (element == element) (in_part (spot_of element inner) (slice_get v.parts element)) (eq-eqb element element refl) (ap (in_part (spot_of element inner)) sits.is_part ∙ inside))
 
   pub block_at_sits : (block : ℕ) → block_at v element position sector ≡ Some block → Sits v element position sector block

@@ -1,9 +1,11 @@
 -- The data cells of rows: what the value of each is read from, and the sums of rows around the parity.
-use Rattle.std.proofs.Common.{◌≡◌, ◌∙◌, ◌⊎◌, inl, inr, ℕ, zero, suc, ◌+◌, ◌-◌, ◌/◌, ◌<◌, ◌≤◌, Bool, true, false, List, [], ◌∷◌, ◌++◌, Option, Some, None, refl, sym, ap, arith, map, length, slice_get}
+use Rattle.std.proofs.Common.{◌≡◌, ◌∙◌, ◌⊎◌, inl, inr, ℕ, zero, suc, ◌+◌, ◌-◌, ◌/◌, ◌<◌, ◌≤◌, Bool, true, false, List, [], ◌∷◌, ◌++◌, Option, Some, None, refl, sym, ap, arith, map, length, slice_get, append-nil}
 use Rattle.std.specs.Prelude.{◌==◌, option_map, option_to_list, unwrap_or, if◌then◌else◌}
 use Rattle.std.specs.List.{flat_map, range_with_len}
 use Rattle.std.specs.Simd.Lanes.{fold_l}
-use Rattle.std.proofs.lemmas.Bool.{eqb-true, eq-eqb}
+use Rattle.std.proofs.lemmas.Bool.{eqb-true, eq-eqb, cases_eq}
+use Rattle.ddf_lemmas.proofs.Lists.{at_first}
+use Rattle.ddf_lemmas.proofs.Options.{some_is}
 use Rattle.ddf_bay.specs.Sectors.{Image}
 use Rattle.ddf_parity.specs.Xor.{xor, xor_all, zeros}
 use Rattle.ddf_primary.specs.Cells.{after_parity, before_parity, parity_member}
@@ -16,19 +18,12 @@ use Rattle.ddf_array.specs.Volume.{Volume, IsVolume}
 use Rattle.ddf_array.specs.Sources.{Source, copy, row, copies, rows, row_without}
 use Rattle.ddf_array.specs.Values.{bytes_at, given, value}
 use Rattle.ddf_array.specs.Rows.{block_at, cell_value, row_sum, sources_without_block, value_without_block}
-use Rattle.ddf_array.proofs.Ranges.{append-nil, flat-around, flat-more}
+use Rattle.ddf_array.proofs.Ranges.{flat-around, flat-more}
 use Rattle.ddf_array.specs.Apart.{IsApart}
 use Rattle.ddf_cells.proofs.CopiesOn.{block_at_sits, in_copies}
 use Rattle.ddf_cells.proofs.OnCells.{OnCell}
 
-some_is : {X : Type 0} {a b : X} → Some a ≡ Some b → a ≡ b
-some_is e = cc
-
 -- ---- the first cell of a block
-
-pub at_first : {X : Type 0} (xs : List X) (i : ℕ) (x : X) → slice_get xs i ≡ Some x → (y : X) × (slice_get xs 0 ≡ Some y)
-at_first [] i x e = absurd (cc)
-at_first (y ∷ xs) i x e = (y, refl)
 
 front : (xs : List Site) (ys : List Source) (x : Site) → slice_get xs 0 ≡ Some x → slice_get (map copy xs ++ ys) 0 ≡ Some (copy x)
 front [] ys x e = absurd (cc)
@@ -86,16 +81,6 @@ not_equal a b other = by (a == b) refl
     by : (c : Bool) → (a == b) ≡ c → c ≡ false
     by true is = absurd (other (eqb-true a b is))
     by false is = refl
-
-cases_eq : (a b : ℕ) → (a ≡ b) ⊎ (a ≡ b → ⊥)
-cases_eq a b = by (a == b) refl
-  where
-    by : (c : Bool) → (a == b) ≡ c → (a ≡ b) ⊎ (a ≡ b → ⊥)
-    by true is = inl (eqb-true a b is)
-    by false is = inr (λ same. differ (sym (eq-eqb a b same) ∙ is))
-      where
-        differ : true ≡ false → ⊥
-        differ e = cc
 
 -- ---- sums around the parity
 

@@ -4,6 +4,7 @@ use Rattle.std.specs.Prelude.{◌==◌, if◌then◌else◌, option_to_list, is_
 use Rattle.std.specs.Simd.Lanes.{fold_l}
 use Rattle.std.proofs.lemmas.Bool.{cases_lt, eq-eqb, eqb-true}
 use Rattle.std.proofs.lemmas.List.{map-append}
+use Rattle.ddf_lemmas.proofs.Lists.{in_either}
 use Rattle.ddf_bay.specs.Sectors.{Image}
 use Rattle.ddf_bay.specs.State.{BayState}
 use Rattle.ddf_parity.specs.Xor.{xor, xor_all}
@@ -29,7 +30,7 @@ use Rattle.ddf_cells.specs.GivenCells.{AreCellsGiven, IsCellAdded, IsCellGiven, 
 use Rattle.ddf_cells.specs.RowSums.{is_other, others_among}
 use Rattle.ddf_cells.specs.Without.{IsGivenWithout, own_sources}
 use Rattle.ddf_cells.proofs.Alike.{IsOfCells, cell_site, given_same, of_copy, of_row, row_cells, source_is_cells}
-use Rattle.ddf_cells.proofs.Lists.{in_both, some_not_none}
+use Rattle.ddf_cells.proofs.Lists.{some_not_none}
 use Rattle.ddf_cells.proofs.Piecewise.{piece_more}
 use Rattle.ddf_cells.proofs.SumSteps.{parity_within, sum_more, sum_of_all}
 use Rattle.ddf_cells.proofs.Surely.{in_every}
@@ -100,7 +101,7 @@ module _ (failed : ℕ → Type 0) (v : Volume) (known : IsVolume v) (a b : Imag
     of_own position false k source at =
         ⊎_elim (λ front. of_site position (site_at part.places position sector) refl front.0 source front.1)
         (λ back. of_rest position (keeps_parity part.shape.layout) back.0 source back.1)
-        (in_both (map copy (option_to_list (site_at part.places position sector)))
+        (in_either (map copy (option_to_list (site_at part.places position sector)))
         (if keeps_parity part.shape.layout then map row (option_to_list (row_without part.places position sector)) else []) k source at)
 
     pub cell_given_same : (position : ℕ) (bytes : List ℕ) → IsCellGiven failed v a element part sector position bytes → IsCellGiven failed v b element part sector position bytes

@@ -3,6 +3,7 @@ use Rattle.std.proofs.Common.{◌≡◌, ◌∙◌, ℕ, zero, suc, ◌+◌, ◌
 use Rattle.std.specs.Prelude.{◌==◌, option_map, option_and_then, if◌then◌else◌}
 use Rattle.std.proofs.lemmas.Bool.{eqb-true}
 use Rattle.std.proofs.lemmas.Option.{slice_get_within}
+use Rattle.ddf_lemmas.proofs.Options.{some_is}
 use Rattle.ddf_primary.specs.Cells as cells_of
 use Rattle.ddf_primary.specs.Cells.{depth_of, parity_member}
 use Rattle.ddf_primary.specs.Copies.{sector_on}
@@ -165,9 +166,6 @@ one_place v apart e p x e' p' x' part part' one is is' below below' at at' =
     some_same e = cc
 
 -- ---- no two blocks share a cell
-
-some_is : {X : Type 0} {a b : X} → Some a ≡ Some b → a ≡ b
-some_is e = cc
 
 module _ (v : Volume) (known : IsVolume v) where
   pub sector_below : (e p x b : ℕ) (sits : Sits v e p x b) → x < depth_of sits.part.shape

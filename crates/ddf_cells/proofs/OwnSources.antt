@@ -1,5 +1,5 @@
 -- The sources of a cell that holds no block, by the mark of the array.
-use Rattle.std.proofs.Common.{◌≡◌, ◌∙◌, inl, ⊎_elim, ℕ, Bool, true, false, List, [], ◌∷◌, ◌++◌, Option, Some, None, refl, sym, ap, subst, map}
+use Rattle.std.proofs.Common.{◌≡◌, ◌∙◌, inl, ⊎_elim, ℕ, Bool, true, false, List, [], ◌++◌, Option, Some, None, refl, sym, ap, subst, map, append-nil}
 use Rattle.std.specs.Prelude.{◌&&◌, is_some, option_to_list, if◌then◌else◌}
 use Rattle.ddf_bay.specs.Sectors.{Image}
 use Rattle.ddf_array.specs.declared.part.Part.{Part}
@@ -10,10 +10,6 @@ use Rattle.ddf_array.specs.Rows.{sources_without_block}
 use Rattle.ddf_array.specs.Sources.{Source, copy, row, row_without}
 use Rattle.ddf_read.specs.Reading.{IsGivenBy, NotRead}
 use Rattle.ddf_cells.specs.Without.{own_sources}
-
-append_none : (xs : List Source) → xs ++ [] ≡ xs
-append_none [] = refl
-append_none (x ∷ xs) = ap (λ l. x ∷ l) (append_none xs)
 
 module _ (failed : ℕ → Type 0) (marked : Bool) (part : Part) (position sector : ℕ) where
   abbrev own : Option Site
@@ -47,4 +43,4 @@ module _ (failed : ℕ → Type 0) (marked : Bool) (part : Part) (position secto
   pub own_lone : (marked && is_some own) ≡ false → keeps_parity part.shape.layout ≡ false → (first : Option ℕ) → NotRead failed (map copy (option_to_list own)) first → NotRead failed (own_sources marked part position sector) first
   own_lone is none first not =
       subst (λ (l : List Source). NotRead failed l first)
-      (sym (chosen false is ∙ ap (λ (b : Bool). map copy (option_to_list own) ++ (if b then map row (option_to_list (row_without part.places position sector)) else [])) none ∙ append_none (map copy (option_to_list own)))) not
+      (sym (chosen false is ∙ ap (λ (b : Bool). map copy (option_to_list own) ++ (if b then map row (option_to_list (row_without part.places position sector)) else [])) none ∙ append-nil (map copy (option_to_list own)))) not

@@ -1,6 +1,7 @@
 -- What changes of parity cells leave as it is: the data cells, and the sums of rows. Runs of parity cells.
 use Rattle.std.proofs.Common.{◌≡◌, ◌≢◌, ◌∙◌, ◌⊎◌, inl, inr, ⊎_elim, ℕ, ◌+◌, ◌-◌, ◌/◌, ◌<◌, ◌≤◌, false, true, List, [], Some, sym, ap, subst, arith, length, slice_get}
 use Rattle.std.specs.Prelude.{option_map, slice_index_or}
+use Rattle.ddf_lemmas.proofs.Options.{some_is}
 use Rattle.ddf_bay.specs.Sectors.{Image, InRun, put_run}
 use Rattle.ddf_bay.specs.Moments.{Mixes}
 use Rattle.ddf_bay.proofs.Runs.{inside, put_mixes}
@@ -28,9 +29,6 @@ use Rattle.ddf_cells.proofs.CopiesOn.{on_position}
 use Rattle.ddf_cells.proofs.DataCells.{IsReadFrom, read_from_one, row_is, same_sums}
 use Rattle.ddf_cells.proofs.OnCells.{no_parity, on_cell, one_place}
 use Rattle.ddf_cells.proofs.Whole.{whole_site}
-
-some_is : {X : Type 0} {a b : X} → Some a ≡ Some b → a ≡ b
-some_is e = cc
 
 -- the parity of neighbouring rows of a strip is on one position
 pub parity_holds : (part : Part) (sector count many parity : ℕ) → keeps_parity part.shape.layout ≡ true → IsInOneRow part sector many → count ≤ many → parity_member part.shape (sector / part.shape.strip) ≡ Some parity

@@ -1,6 +1,5 @@
 -- An array whose copies are equal, and whose parity is right, is redundant.
 use Rattle.std.proofs.Common.{◌≡◌, ◌∙◌, ⊎_elim, ℕ, ◌+◌, ◌-◌, ◌/◌, ◌<◌, true, false, List, [], ◌∷◌, ◌++◌, Option, Some, None, refl, sym, ap, arith, map, length, slice_get}
-use Rattle.std.specs.Prelude.{option_map}
 use Rattle.std.specs.List.{range_with_len}
 use Rattle.std.proofs.lemmas.List.{map-append}
 use Rattle.ddf_bay.specs.Sectors.{Image}
@@ -24,15 +23,12 @@ use Rattle.ddf_array.specs.Apart.{IsApart}
 use Rattle.ddf_cells.proofs.CopiesOn.{cell_within, in_copies}
 use Rattle.ddf_primary.proofs.Needs.{parity_below, some_members, some_parity}
 use Rattle.ddf_array.specs.declared.place.Place.{Place}
+use Rattle.ddf_array.proofs.RowParity.{rest_of}
 use Rattle.ddf_cells.specs.CellSources.{HaveEqualCopies}
 use Rattle.ddf_cells.proofs.DataCells.{own_cell, read_from_one, row_is, same_sums, sum_all, sum_but}
 use Rattle.ddf_cells.proofs.Whole.{whole_site}
 
 -- ---- a whole row
-
-rest_of : (x : Site) (o : Option (List Site)) (all : List Site) → option_map (λ l. x ∷ l) o ≡ Some all → (rest : List Site) × (o ≡ Some rest) × (x ∷ rest ≡ all)
-rest_of x None all e = absurd (cc)
-rest_of x (Some rest) all e = (rest, refl, cc)
 
 module _ (image : Image) (at : ℕ → Option Site) (cell : ℕ → List ℕ) (cell_is : (position : ℕ) (own : Site) → at position ≡ Some own → cell position ≡ bytes_at image own) where
   held_by : (position : ℕ) (positions : List ℕ) (all : List Site) (o : Option Site) → at position ≡ o → all_of (o ∷ map at positions) ≡ Some all

@@ -1,34 +1,21 @@
 -- How many cells and stretches a range of blocks has on a position, counted stretch by stretch.
-use Rattle.std.proofs.Common.{◌≡◌, ◌≢◌, ◌∙◌, ℕ, zero, suc, ◌+◌, ◌-◌, ◌<◌, ◌≤◌, Bool, true, false, List, [], ◌∷◌, ◌++◌, Option, Some, None, refl, sym, ap, arith, ⊎_elim}
-use Rattle.std.specs.Prelude.{◌&&◌, ◌==◌, if◌then◌else◌}
+use Rattle.std.proofs.Common.{◌≡◌, ◌≢◌, ◌∙◌, ℕ, zero, suc, ◌+◌, ◌-◌, ◌<◌, ◌≤◌, List, [], ◌∷◌, ◌++◌, Option, Some, None, refl, sym, ap, arith, ⊎_elim}
+use Rattle.std.specs.Prelude.{if◌then◌else◌}
 use Rattle.std.specs.List.{range_with_len, sum_by}
-use Rattle.std.proofs.lemmas.Bool.{cases_lt, eqb-true, eq-eqb}
+use Rattle.std.proofs.lemmas.Bool.{cases_lt}
 use Rattle.std.proofs.lemmas.List.Sums.{sum_by_push}
 use Rattle.ddf_array.specs.declared.site.Site.{Site}
 use Rattle.ddf_array.specs.Places.{site_on}
 use Rattle.ddf_array.specs.Volume.{Volume}
-use Rattle.ddf_array.proofs.Bools.{and_first, and_second}
 use Rattle.ddf_array.proofs.Ranges.{range-more}
 use Rattle.ddf_read.specs.Stretches.{follows}
+use Rattle.ddf_read.proofs.Counted.{broken_by, followed}
 use Rattle.ddf_cells.specs.CellsOn.{cell_on, cells_on, how_many, is_end, stretches_on, IsRunOn}
 
 -- ---- two neighbours
 
-followed : (slot lba : ℕ) → follows (site_on slot lba) (site_on slot (lba + 1)) ≡ true
-followed slot lba = ap (λ b. b && (lba + 1 == lba + 1)) (eq-eqb slot slot refl) ∙ eq-eqb (lba + 1) (lba + 1) refl
-
 joined : (slot lba : ℕ) (one next : Option Site) → one ≡ Some (site_on slot lba) → next ≡ Some (site_on slot (lba + 1)) → is_end one next ≡ 0
 joined slot lba one next e f = ap (λ o. is_end o next) e ∙ ap (is_end (Some (site_on slot lba))) f ∙ ap (λ b. if b then 0 else 1) (followed slot lba)
-
-follower : (slot lba : ℕ) (next : Site) → follows (site_on slot lba) next ≡ true → next ≡ site_on slot (lba + 1)
-follower slot lba next e =
-    let same_slot = eqb-true next.slot slot (and_first (next.slot == slot) (next.lba == lba + 1) e) in
-    let same_lba = eqb-true next.lba (lba + 1) (and_second (next.slot == slot) (next.lba == lba + 1) e) in
-    ap (λ s. site_on s next.lba) same_slot ∙ ap (site_on slot) same_lba
-
-broken_by : (slot lba : ℕ) (next : Site) (b : Bool) → follows (site_on slot lba) next ≡ b → next ≢ site_on slot (lba + 1) → ◌≡◌ {A = ℕ} (if b then 0 else 1) 1
-broken_by slot lba next true e other = absurd (other (follower slot lba next e))
-broken_by slot lba next false e other = refl
 
 broken : (slot lba : ℕ) (next : Option Site) → next ≢ Some (site_on slot (lba + 1)) → is_end (Some (site_on slot lba)) next ≡ 1
 broken slot lba None other = refl

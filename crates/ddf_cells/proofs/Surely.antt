@@ -2,6 +2,9 @@
 use Rattle.std.proofs.Common.{◌≡◌, ◌∙◌, inl, inr, ⊎_elim, ℕ, ◌+◌, ◌<◌, Bool, true, false, List, [], ◌++◌, Option, Some, None, refl, sym, ap, subst, map, slice_get}
 use Rattle.std.specs.Prelude.{option_map, option_to_list, is_some, not, ◌&&◌, unwrap_or, if◌then◌else◌}
 use Rattle.std.specs.Option.{option_and_then}
+use Rattle.std.proofs.lemmas.Option.{same_Some}
+use Rattle.ddf_lemmas.proofs.Lists.{at_first, first_get, in_map}
+use Rattle.ddf_lemmas.proofs.Tests.{true_not_false}
 use Rattle.ddf_bay.specs.State.{BayState}
 use Rattle.ddf_parity.specs.Xor.{zeros}
 use Rattle.ddf_primary.specs.Cells.{depth_of}
@@ -17,7 +20,6 @@ use Rattle.ddf_array.specs.Redundant.{IsRedundant}
 use Rattle.ddf_array.specs.Rows.{block_at, cell_value, sources_without_block, value_without_block}
 use Rattle.ddf_array.specs.Sound.{AreSectors}
 use Rattle.ddf_array.proofs.Consistent.{position_within}
-use Rattle.ddf_array.proofs.Losses.{at_front}
 use Rattle.ddf_array.proofs.RowSums.{cell_from_row}
 use Rattle.ddf_read.specs.Reading.{Failed, IsGivenBy, IsOn, OnlyReads}
 use Rattle.ddf_read.proofs.GivenLaws.{one_of, value_of}
@@ -26,9 +28,8 @@ use Rattle.ddf_read.proofs.SourceSlots.{first_on}
 use Rattle.ddf_cells.specs.Alike.{IsCell}
 use Rattle.ddf_cells.specs.CellSources.{HaveEqualCopies, IsSure}
 use Rattle.ddf_cells.specs.Without.{IsGivenWithout, own_sources}
-use Rattle.ddf_cells.proofs.DataCells.{at_first, value_first}
-use Rattle.ddf_cells.proofs.Items.{in_map}
-use Rattle.ddf_cells.proofs.Lists.{some_not_none, true_not_false}
+use Rattle.ddf_cells.proofs.DataCells.{value_first}
+use Rattle.ddf_cells.proofs.Lists.{some_not_none}
 use Rattle.ddf_read.proofs.BlockSources.{sources_untrusted}
 
 -- ---- before and behind other reads
@@ -45,9 +46,6 @@ module _ {D : Type 0} (v : Volume) {a b c : BayState D} (so_far : OnlyReads a b)
 
 -- ---- the place of a site
 
-some_is : {X : Type 0} (x y : X) → ◌≡◌ {A = Option X} (Some x) (Some y) → x ≡ y
-some_is x y e = cc
-
 pub record OfPlace (places : List Place) (position sector : ℕ) (one : Site) : Type 0 where
   pub place : Place
   pub is_place : slice_get places position ≡ Some place
@@ -61,7 +59,7 @@ module _ (places : List Place) (position sector : ℕ) (one : Site) where
   by_slot place at false slot sync is e = absurd (some_not_none one (sym e))
   by_slot place at true None sync is e = absurd (some_not_none one (sym e))
   by_slot place at true (Some s) sync is e =
-      let same : site_on s (place.start + sector) ≡ one = some_is (site_on s (place.start + sector)) one e in
+      let same : site_on s (place.start + sector) ≡ one = same_Some (site_on s (place.start + sector)) one e in
       record { place = place; is_place = at; is_synced = sync; is_there = is ∙ ap (λ (x : Site). Some x.slot) same; lba_is = ap (λ (x : Site). x.lba) (sym same) }
 
   by_place : (found : Option Place) → slice_get places position ≡ found → option_and_then (λ place. site place sector) found ≡ Some one → OfPlace places position sector one
@@ -80,7 +78,7 @@ cell_on v slot lba is =
 
 pub in_every : (trusts : Bool) (copied rowed : List Source) (k : ℕ) (x : Source) → slice_get (if trusts then copied ++ rowed else copied) k ≡ Some x → slice_get (copied ++ rowed) k ≡ Some x
 in_every true copied rowed k x e = e
-in_every false copied rowed k x e = at_front copied rowed k x e
+in_every false copied rowed k x e = first_get copied rowed k x e
 
 module _ {D : Type 0} (v : Volume) (a b : BayState D) where
   -- a block that was read has its value

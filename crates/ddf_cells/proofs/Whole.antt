@@ -1,7 +1,9 @@
 -- Elements that lack no position: each block of an array of them has an available cell.
-use Rattle.std.proofs.Common.{◌≡◌, ◌∙◌, ℕ, zero, suc, ◌+◌, ◌<◌, ◌≤◌, Bool, true, false, not, List, [], ◌∷◌, ◌++◌, Option, Some, None, refl, sym, ap, arith, map, length, slice_get, ◌&&◌, filter_map}
+use Rattle.std.proofs.Common.{◌≡◌, ◌∙◌, ℕ, zero, suc, ◌+◌, ◌<◌, ◌≤◌, Bool, true, false, List, [], ◌∷◌, ◌++◌, Option, Some, None, refl, sym, ap, arith, map, length, slice_get, ◌&&◌, filter_map}
 use Rattle.std.specs.Prelude.{option_map, option_and_then, is_some, if◌then◌else◌}
 use Rattle.std.specs.List.{list_all, list_any}
+use Rattle.ddf_lemmas.proofs.Lists.{at_first, get_filter_map}
+use Rattle.ddf_lemmas.proofs.Tests.{or_first, or_second, second_of_and_not}
 use Rattle.ddf_bay.specs.Sectors.{Image}
 use Rattle.ddf_array.specs.declared.part.Part.{Part}
 use Rattle.ddf_array.specs.declared.place.Place.{Place}
@@ -11,8 +13,7 @@ use Rattle.ddf_array.specs.Levels.{keeps_parity}
 use Rattle.ddf_array.specs.Volume.{Volume, IsVolume, capacity}
 use Rattle.ddf_array.specs.Sources.{copy, row, copies, rows, row_without, at_spot, element_copies, element_rows}
 use Rattle.ddf_array.specs.Values.{given}
-use Rattle.ddf_array.proofs.Bools.{or_first, or_second}
-use Rattle.ddf_array.proofs.Consistent.{at_part, to_filter, to_flat}
+use Rattle.ddf_array.proofs.Consistent.{at_part, to_flat, in_filter, in_flat}
 use Rattle.ddf_array.proofs.Enough.{all_pass}
 use Rattle.ddf_cells.specs.Degraded.{is_degraded, lacks_place}
 use Rattle.ddf_cells.proofs.CopiesOn.{cell_within}
@@ -20,8 +21,6 @@ use Rattle.ddf_array.specs.Cells.{block_spots, element_cells}
 use Rattle.ddf_array.specs.Within.{is_within}
 use Rattle.ddf_array.proofs.Losses.{some_value}
 use Rattle.ddf_cells.specs.CellSources.{IsReadable}
-use Rattle.ddf_cells.proofs.Items.{in_filter, in_flat}
-use Rattle.ddf_cells.proofs.DataCells.{at_first}
 
 -- ---- places of an element that isn't degraded
 
@@ -34,11 +33,6 @@ pub none_lacks : (xs : List Part) → list_any lacks_place xs ≡ false → (k :
 none_lacks [] e k x at = absurd (cc)
 none_lacks (y ∷ ys) e zero x at = let same : y ≡ x = cc in sym (ap lacks_place same) ∙ or_first (lacks_place y) (list_any lacks_place ys) e
 none_lacks (y ∷ ys) e (suc k) x at = none_lacks ys (or_second (lacks_place y) (list_any lacks_place ys) e) k x at
-
-all_there : (a b : Bool) → a ≡ true → (a && not b) ≡ false → b ≡ true
-all_there true true is e = refl
-all_there true false is e = absurd (cc)
-all_there false b is e = absurd (cc)
 
 at_place : (places : List Place) (position sector : ℕ) (found : Option Place) → slice_get places position ≡ found → position < length places → list_all is_available places ≡ true
     → (one : Site) × (option_and_then (λ place. site place sector) found ≡ Some one)
@@ -55,7 +49,7 @@ pub whole_site : (v : Volume) → is_degraded v ≡ false → (element : ℕ) (p
     → (position sector : ℕ) → position < length part.places → (one : Site) × (site_at part.places position sector ≡ Some one)
 whole_site v whole element part at parity position sector below =
     let lacks = none_lacks v.parts whole element part at in
-    at_place part.places position sector (slice_get part.places position) refl below (all_there (keeps_parity part.shape.layout) (list_all is_available part.places) parity lacks)
+    at_place part.places position sector (slice_get part.places position) refl below (second_of_and_not (keeps_parity part.shape.layout) (list_all is_available part.places) parity lacks)
 
 -- ---- each block has a copy
 
@@ -77,7 +71,7 @@ module _ (v : Volume) (known : IsVolume v) (whole : is_degraded v ≡ false) (bl
       let shape = known.are_parts from.item.element part.0 part.1 in
       let within = cell_within part.0 from.item.block shape.shape_is cell.at cell.item cell.is_at in
       let own = whole_site v whole from.item.element part.0 part.1 row.0 cell.item.0 cell.item.1 (omega (arith, within, shape.has_places)) in
-      let inside = to_filter (λ (c : ℕ × ℕ). site_at part.0.places c.0 c.1) (element_cells part.0.shape from.item.block) cell.at cell.item own.0 cell.is_at own.1 in
+      let inside = get_filter_map (λ (c : ℕ × ℕ). site_at part.0.places c.0 c.1) (element_cells part.0.shape from.item.block) cell.at cell.item own.0 cell.is_at own.1 in
       let among =
       to_flat (at_spot v.parts element_copies) (block_spots v block) from.at inside.0 from.item own.0 from.is_at
       (ap (λ (l : List Site). slice_get l inside.0) (at_part v.parts element_copies from.item part.0 part.1) ∙ inside.1) in

@@ -1,6 +1,7 @@
 -- Writes of blocks, call by call.
 use Rattle.std.proofs.Common.{◌≡◌, ◌∙◌, ◌⊎◌, inl, inr, ⊎_elim, ℕ, zero, suc, ◌+◌, ◌-◌, ◌<◌, Bool, true, false, List, [], ◌∷◌, refl, sym, ap, subst, arith, length, replicate}
 use Rattle.std.specs.Prelude.{slice_index_or, slice_set}
+use Rattle.ddf_lemmas.proofs.Lists.{touch_count}
 use Rattle.ddf_bay.specs.State.{BayState}
 use Rattle.ddf_bay.specs.Sectors.{Image, InRun, IsLeft}
 use Rattle.ddf_bay.specs.Moments.{StopsLeave, Adds, Mixes, IsAmong, SpendsWrites}
@@ -28,7 +29,7 @@ touch_here [] slot below = absurd (omega (arith, below))
 touch_here (b ∷ bs) zero below = refl
 touch_here (b ∷ bs) (suc slot) below = touch_here bs slot (omega (arith, below))
 
-touch_only : (touched : List Bool) (slot s : ℕ) → IsTouchedSlot (slice_set touched slot true) s → IsTouchedSlot touched s ⊎ (s ≡ slot)
+pub touch_only : (touched : List Bool) (slot s : ℕ) → IsTouchedSlot (slice_set touched slot true) s → IsTouchedSlot touched s ⊎ (s ≡ slot)
 touch_only [] slot s is = inl is
 touch_only (b ∷ bs) zero zero is = inr refl
 touch_only (b ∷ bs) zero (suc s) is = inl is
@@ -40,11 +41,6 @@ pub none_touched : (n s : ℕ) → IsTouchedSlot (replicate n false) s → ⊥
 none_touched zero s is = cc
 none_touched (suc n) zero is = cc
 none_touched (suc n) (suc s) is = none_touched n s is
-
-touch_count : (touched : List Bool) (slot : ℕ) → length (slice_set touched slot true) ≡ length touched
-touch_count [] slot = refl
-touch_count (b ∷ bs) zero = refl
-touch_count (b ∷ bs) (suc slot) = ap suc (touch_count bs slot)
 
 -- the first sector of a run gets bytes
 given_first : (May : Giving) (slot lba : ℕ) (run : List (List ℕ)) → 0 < length run → ((l : ℕ) (bytes : List ℕ) → InRun lba run l bytes → May slot l bytes) → IsGivenOn May slot

@@ -1,5 +1,6 @@
 -- What is assembled where a stop cut an import: what was so before, or one of its changes.
 use Rattle.std.proofs.Common.{◌≡◌, ◌⊎◌, ℕ, suc, ◌+◌, ◌≤◌, Bool, true, false, List, [], ◌∷◌, length, take, Some, slice_get, inl, inr, ⊎_elim, if◌then◌else◌, ap, sym, subst, arith}
+use Rattle.std.proofs.lemmas.Option.{slice_get_within}
 use Rattle.ddf_bay.specs.State.{BayState}
 use Rattle.ddf_config.specs.Configuration.{Configuration}
 use Rattle.ddf_view.specs.View.{View}
@@ -9,7 +10,7 @@ use Rattle.ddf_history.specs.Issued.{Past, IsSince, issue, leave_out, take_off}
 use Rattle.ddf_history.specs.Promise.{IsKept}
 use Rattle.ddf_history.specs.Reading.{Scene}
 use Rattle.ddf_history.specs.Scenes.{scene_of}
-use Rattle.ddf_history.proofs.Lists.{get_more, get_taken, get_within}
+use Rattle.ddf_history.proofs.Lists.{get_more, get_taken}
 use Rattle.ddf_seats.specs.Group.{GroupValue}
 use Rattle.ddf_seats.specs.Leading.{some}
 use Rattle.ddf_history_steps.specs.Going.{Goes, begun, issue_all}
@@ -52,7 +53,7 @@ module _ (group : List ℕ) where
   last_or : (past : Past (groups group)) (i : ℕ) (config : Configuration) → length past.changes.issued ≡ past.changes.acked + 1 → past.changes.acked ≤ i
       → slice_get past.changes.issued i ≡ Some config → slice_get past.changes.issued past.changes.acked ≡ Some config
   last_or past i config long late at =
-      let within = get_within past.changes.issued i config at in
+      let within = slice_get_within past.changes.issued i config at in
       let same : i ≡ past.changes.acked = omega (arith, within, long, late) in
       subst (λ (n : ℕ). slice_get past.changes.issued n ≡ Some config) same at
 

@@ -1,5 +1,5 @@
 -- How a call of the program ends.
-use Rattle.std.proofs.Common.{◌≡◌, ◌⊎◌, inl, inr, ⊎_elim, ℕ, ◌+◌, ◌*◌, ◌≤◌, List, [], ◌++◌, length, replicate, false, Option, Result, Ok, Err, refl, sym, subst, arith}
+use Rattle.std.proofs.Common.{◌≡◌, ◌⊎◌, inl, inr, ⊎_elim, ℕ, ◌*◌, List, [], ◌++◌, length, replicate, false, Option, Result, Ok, Err, refl, sym, subst, arith}
 use Rattle.std.specs.Prelude.{IsTrue}
 use Rattle.std.proofs.lemmas.Bool.{cases_lt}
 use Rattle.std.proofs.lemmas.List.{append-nil, length-replicate}
@@ -41,7 +41,7 @@ use Rattle.ddf_import_command.proofs.Ending.{imported_nothing}
 use Rattle.ddf_read_commands.proofs.LeftOut.{has_no_place}
 use Rattle.ddf_read_commands.proofs.ReadBlocks.{memory_in}
 use Rattle.ddf_read_commands.proofs.Scrubbed.{scrubbed_nothing}
-use Rattle.ddf_read_commands.specs.Read.{most_looks, CallsOfReading, NotRead}
+use Rattle.ddf_read_commands.specs.Read.{CallsOfReading, NotRead}
 use Rattle.ddf_write_commands.specs.Doing.{Doing}
 use Rattle.ddf_write_commands.specs.Resync.{IsResyncDone, resync_request, resyncing}
 use Rattle.ddf_write_commands.specs.Worked.{IsWorkedIn}
@@ -53,8 +53,9 @@ use Rattle.ddf_rebuild_command.specs.GoingBack.{copyback_request}
 use Rattle.ddf_rebuild_command.specs.Rebuilt.{IsRebuildDone, IsRebuiltIn}
 use Rattle.ddf_rebuild_command.proofs.Costs.{none_cost}
 use Rattle.ddf_rebuild_command.proofs.BackCosts.{none_cost_back}
-use Rattle.ddf_write_commands.specs.Write.{CallsOfWriting, IsWriteDone, looking, write_request}
+use Rattle.ddf_write_commands.specs.Write.{IsWriteDone, looking, write_request}
 use Rattle.ddf_write_commands.specs.Write.Outcome.{Unfit}
+use Rattle.ddf_write_commands.proofs.WriteCalls.{few_in}
 use Rattle.ddf_command.specs.Run.{IsCommandDone, is_status}
 
 -- ---- what the cause of a status tells
@@ -101,12 +102,6 @@ same_asked result one other is (inl also) = cc
 same_asked result one other is (inr memory) = cc
 
 -- ---- before anything was done
-
--- a write that only looked for its group made no more calls
-few_looks : {D : Type 0} (work : Work D) (timestamp : ℕ) (word : List ℕ) (start count : ℕ) (answer : Result GroupValue Assembly) → work.new.calls ≤ work.old.calls + most_looks (length work.old.sizes)
-    → CallsOfWriting work timestamp word start count answer
-few_looks work timestamp word start count (Ok found) few = inl few
-few_looks work timestamp word start count (Err fault) few = few
 
 -- no slot was looked at
 none_looked : {D : Type 0} (old : BayState D) → IsLooked old old
@@ -234,7 +229,7 @@ module _ {D : Type 0} (old : BayState D) (tells told : Type 0) (before : SinkSta
           leaves = λ tells. tt;
           along = λ tells. tt;
           costs = none_written (work_of tells old old) (reads_start old);
-          calls = few_looks (work_of tells old old) timestamp word start count (group_of taken.newest named) (omega arith);
+          calls = few_in (work_of tells old old) timestamp word start count (group_of taken.newest named) (omega arith);
         };
         ends = (refl, λ told. refl);
       }

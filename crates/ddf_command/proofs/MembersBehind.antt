@@ -2,6 +2,7 @@
 -- it left out is missing then.
 use Rattle.std.proofs.Common.{◌≡◌, ℕ, ◌+◌, ◌≤◌, Bool, true, false, List, [], ◌∷◌, length, Some, ap, sym, ◌∙◌, subst, arith}
 use Rattle.std.specs.Prelude.{slice_get}
+use Rattle.std.proofs.lemmas.Option.{slice_get_within}
 use Rattle.ddf_bay.specs.State.{BayState}
 use Rattle.ddf_config.specs.Configuration.{Configuration}
 use Rattle.ddf_plan.specs.Lose.{is_among}
@@ -13,7 +14,6 @@ use Rattle.ddf_history.specs.History.{Moment}
 use Rattle.ddf_history.specs.Issued.{IsSince, Past}
 use Rattle.ddf_history.specs.Promise.{IsKept}
 use Rattle.ddf_history.specs.Reading.{Scene}
-use Rattle.ddf_history.proofs.Lists.{get_within}
 use Rattle.ddf_history.proofs.Members.{own_member}
 use Rattle.ddf_history.proofs.Sound.{groups_are_sound}
 use Rattle.ddf_seats.specs.declared.seated.Seated.{Seated}
@@ -135,7 +135,7 @@ module _ {B : Type 0} {tells : Type 0} (told : tells) (disks : B → BayState B)
   left_missing slot out current number config since =
       let last = last_misses told disks group old ended slot current out in
       let long = over_length group old.past readable ended.group issued new.past over in
-      let within = get_within new.past.changes.issued number config since.is_there in
+      let within = slice_get_within new.past.changes.issued number config since.is_there in
       let late = since.late in
       let at_last : number ≡ new.past.changes.acked = omega (arith, long, within, late) in
       let there : slice_get new.past.changes.issued new.past.changes.acked ≡ Some config = subst (λ (n : ℕ). slice_get new.past.changes.issued n ≡ Some config) at_last since.is_there in

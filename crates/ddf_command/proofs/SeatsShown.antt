@@ -1,6 +1,6 @@
 -- The disks of a group's seats show the copies that stand for their slots.
 use Rattle.std.proofs.Common.{◌≡◌, ℕ, Bool, true, false, List, length, Option, Some, Ok, if◌then◌else◌, ap, sym, ◌∙◌, inl, subst}
-use Rattle.std.proofs.lemmas.Option.{slice_get-map}
+use Rattle.std.proofs.lemmas.Option.{slice_get-map, same_Some}
 use Rattle.std.specs.Prelude.{option_map, slice_get, unwrap_or}
 use Rattle.ddf_bay.specs.State.{BayState}
 use Rattle.ddf_copy.specs.declared.copy.DiskCopy.{DiskCopy}
@@ -14,7 +14,6 @@ use Rattle.ddf_group.specs.Shown.{shown_of}
 use Rattle.ddf_history.specs.Reading.{Shown, IsCopyOf}
 use Rattle.ddf_history.specs.Reading.Shown.{Nothing}
 use Rattle.ddf_history.specs.Scenes.{scene_of, told_of}
-use Rattle.ddf_history.proofs.Since.{some_is}
 use Rattle.ddf_seats.specs.declared.seated.Seated.{Seated}
 use Rattle.ddf_seats.specs.Group.{GroupValue}
 use Rattle.ddf_assembly.specs.Group.{group_of}
@@ -28,9 +27,9 @@ use Rattle.ddf_history_steps.proofs.Told.{scene_told}
 -- The copy that stands for a newest copy is told of it.
 standing_told : (found : Newest) (copy : DiskCopy) → standing_copy found ≡ Some copy → IsCopyOf (told_of (shown_of (Some found))) (view_of copy)
 unfolding shown_of
-standing_told (newests.One which own) copy is = ap view_of (sym (some_is own copy is))
-standing_told (newests.Level own) copy is = ap view_of (sym (some_is own copy is))
-standing_told (newests.TwoDiffer primary secondary) copy is = inl (ap view_of (sym (some_is primary copy is)))
+standing_told (newests.One which own) copy is = ap view_of (sym (same_Some own copy is))
+standing_told (newests.Level own) copy is = ap view_of (sym (same_Some own copy is))
+standing_told (newests.TwoDiffer primary secondary) copy is = inl (ap view_of (sym (same_Some primary copy is)))
 standing_told (newests.Neither first second) copy is = absurd cc
 
 -- A slot that is seen shows what is seen of it.

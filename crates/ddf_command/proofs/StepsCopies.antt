@@ -1,6 +1,7 @@
 -- The copies that the steps of a group write: each is of the group, and names the disk that the copy of its seat named before.
 use Rattle.std.proofs.Common.{◌≡◌, ℕ, Bool, true, false, List, map, filter, Option, Some, None, Ok, if◌then◌else◌, refl, ap, ◌∙◌, subst}
 use Rattle.std.specs.Prelude.{slice_get}
+use Rattle.ddf_lemmas.proofs.Lists.{filter_get, in_map}
 use Rattle.ddf_config.specs.Configuration.{Configuration}
 use Rattle.ddf_copy.specs.declared.copy.DiskCopy.{DiskCopy}
 use Rattle.ddf_plan.specs.declared.change.Change.{Change}
@@ -9,7 +10,6 @@ use Rattle.ddf_view.specs.Shows.{shows}
 use Rattle.ddf_view.proofs.Agreement.{shown_from}
 use Rattle.ddf_rewrite.specs.Before.{Before, before}
 use Rattle.ddf_rewrite.specs.Copies.{changed_copy, recovered_copy}
-use Rattle.ddf_rewrite.proofs.Lists.{map_get}
 use Rattle.ddf_history.specs.Groups.{disk_of}
 use Rattle.ddf_seats.specs.declared.seated.Seated.{Seated}
 use Rattle.ddf_seats.specs.Group.{GroupValue}
@@ -18,11 +18,11 @@ use Rattle.ddf_recovery.specs.Recovery.{config_lost, config_recovered, disks_rec
 use Rattle.ddf_seats.specs.Leading.{lags, leading, some}
 use Rattle.ddf_seats.specs.Seated.{seated, views_in, levelled}
 use Rattle.ddf_steps.specs.Steps.{Step, config_after, disks_after, rewritten, stays_in, step_of}
-use Rattle.ddf_seats.proofs.Lists.{filter_get}
 use Rattle.ddf_steps.proofs.Rewritten.{closed_view}
 use Rattle.ddf_history_steps.proofs.StepMembers.{mended_names, rewritten_names}
 use Rattle.ddf_group_commands.specs.Writing.{IsWrittenOn}
 use Rattle.ddf_history_steps.proofs.AllSteps.{AllSteps, readied_all}
+use Rattle.ddf_history_steps.proofs.MendingSeats.{recovered_group}
 
 -- ---- copies
 
@@ -30,11 +30,6 @@ use Rattle.ddf_history_steps.proofs.AllSteps.{AllSteps, readied_all}
 changed_group : (old : DiskCopy) (leaders : Before) (config : Configuration) (timestamp : ℕ) → (view_of (changed_copy old leaders config timestamp)).group ≡ config.group
 unfolding changed_copy view_of
 changed_group old leaders config timestamp = refl
-
--- So is a recovered one.
-recovered_group : (old : DiskCopy) (leaders : Before) (config : Configuration) (timestamp : ℕ) → (view_of (recovered_copy old leaders config timestamp)).group ≡ config.group
-unfolding recovered_copy view_of
-recovered_group old leaders config timestamp = refl
 
 -- ---- disks
 
@@ -79,12 +74,12 @@ module _ (group : List ℕ) (seats : List Seated) where
 
   mapped_known : (f : Seated → Seated) (disks : List Seated) → ((disk : Seated) → IsOfSeat seats disk → IsKnown group seats (f disk)) → AreOfSeats disks → AreKnown (map f disks)
   mapped_known f disks keeps from place disk at =
-      let one = map_get f disks place disk at in
+      let one = in_map f disks place disk at in
       subst (IsKnown group seats) one.2 (keeps one.0 (from place one.0 one.1))
 
   mapped_of : (f : Seated → Seated) (disks : List Seated) → ((disk : Seated) → IsOfSeat seats disk → IsOfSeat seats (f disk)) → AreOfSeats disks → AreOfSeats (map f disks)
   mapped_of f disks keeps from place disk at =
-      let one = map_get f disks place disk at in
+      let one = in_map f disks place disk at in
       subst (IsOfSeat seats) one.2 (keeps one.0 (from place one.0 one.1))
 
   filtered_of : (p : Seated → Bool) (disks : List Seated) → AreOfSeats disks → AreOfSeats (filter p disks)

@@ -1,9 +1,9 @@
 -- The disks of the steps that are readied are current members of what each step makes of the group.
 use Rattle.std.proofs.Common.{◌≡◌, ℕ, Bool, true, false, List, map, filter, Option, Some, None, Ok, if◌then◌else◌, subst}
+use Rattle.ddf_lemmas.proofs.Lists.{filter_get, in_map}
 use Rattle.ddf_config.specs.Configuration.{Configuration}
 use Rattle.ddf_plan.specs.declared.change.Change.{Change}
 use Rattle.ddf_rewrite.specs.Before.{before}
-use Rattle.ddf_rewrite.proofs.Lists.{map_get}
 use Rattle.ddf_seats.specs.declared.seated.Seated.{Seated}
 use Rattle.ddf_seats.specs.Group.{GroupValue}
 use Rattle.ddf_recovery.specs.Ready.{readied}
@@ -11,14 +11,13 @@ use Rattle.ddf_recovery.specs.Recovery.{config_lost, config_recovered, disks_rec
 use Rattle.ddf_seats.specs.Leading.{lags, leading, some}
 use Rattle.ddf_seats.specs.Seated.{seated, views_in, levelled}
 use Rattle.ddf_steps.specs.Steps.{Step}
-use Rattle.ddf_seats.proofs.Lists.{filter_get}
 use Rattle.ddf_history_steps.specs.AtEnd.{IsMember}
 use Rattle.ddf_history_steps.proofs.StepMembers.{AreMembers, after_members, levelled_member, mended_member}
 use Rattle.ddf_history_steps.proofs.AllSteps.{AllSteps, readied_all}
 
 levelled_members : (config : Configuration) (disks : List Seated) → AreMembers config disks → AreMembers config (map levelled disks)
 levelled_members config disks are place disk at =
-    let one = map_get levelled disks place disk at in
+    let one = in_map levelled disks place disk at in
     subst (IsMember config) one.2 (levelled_member config one.0 (are place one.0 one.1))
 
 module _ (found : GroupValue) (timestamp : ℕ) (are : AreMembers found.config (seated found)) where
@@ -31,7 +30,7 @@ module _ (found : GroupValue) (timestamp : ℕ) (are : AreMembers found.config (
 
   mending_members : HasMembers (mending_step timestamp found)
   mending_members place disk at =
-      let one = map_get (mended (leading found) found.config timestamp) (filter (lags found) (seated found)) place disk at in
+      let one = in_map (mended (leading found) found.config timestamp) (filter (lags found) (seated found)) place disk at in
       let from = filter_get (lags found) (seated found) place one.0 one.1 in
       subst (IsMember found.config) one.2 (mended_member (leading found) found.config timestamp one.0 (are from.0 one.0 from.1))
 
@@ -59,7 +58,7 @@ module _ (found : GroupValue) (timestamp : ℕ) (are : AreMembers found.config (
           (if absent then map levelled (lost_step timestamp found).disks else map (mended_or_kept timestamp found) (seated found))
       by true = levelled_members (config_lost found) (lost_step timestamp found).disks lost_members
       by false = λ place disk at.
-          let one = map_get (mended_or_kept timestamp found) (seated found) place disk at in
+          let one = in_map (mended_or_kept timestamp found) (seated found) place disk at in
           subst (IsMember found.config) one.2 (kept (lags found one.0) one.0 (are place one.0 one.1))
 
   pub steps_members : (changes : List Change) (steps : List Step) → readied found changes timestamp ≡ Ok steps → AllSteps HasMembers steps

@@ -111,12 +111,12 @@ element_small elements element size few e = by (strip_sectors elements element) 
 abbrev pub AreFew : List (Option ElementValue) → Type 0
 AreFew parts = AllByRecursion (λ part. (plan : ElementValue) → part ≡ Some plan → length plan.positions ≤ 64) parts
 
-part_small : (elements : ℕ) (part : Option ElementValue) → ((plan : ElementValue) → part ≡ Some plan → length plan.positions ≤ 64)
+pub part_small : (elements : ℕ) (part : Option ElementValue) → ((plan : ElementValue) → part ≡ Some plan → length plan.positions ≤ 64)
     → (size : ElementSize) → part_size elements part ≡ Some size → IsSmall size
 part_small elements None few size e = absurd (cc)
 part_small elements (Some element) few size e = element_small elements element size (few element refl) e
 
-sizes_small : (elements : ℕ) (parts : List (Option ElementValue)) → AreFew parts → AreSmall (filter_map (part_size elements) parts)
+pub sizes_small : (elements : ℕ) (parts : List (Option ElementValue)) → AreFew parts → AreSmall (filter_map (part_size elements) parts)
 sizes_small elements [] few = All-nil IsSmall
 sizes_small elements (part ∷ parts) few = by (part_size elements part) refl (sizes_small elements parts few.1)
   where

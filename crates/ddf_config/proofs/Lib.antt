@@ -5,3 +5,4 @@ pub mod Finds
 pub mod Firsts
 pub mod Capacity
 pub mod ByDisk
+pub mod Common

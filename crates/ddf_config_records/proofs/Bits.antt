@@ -7,20 +7,10 @@ use Rattle.std.proofs.lemmas.List.{get_or-set_same, get_or-set_other, get_or-rep
 use Rattle.std.proofs.lemmas.List.Sums.{fold_more}
 use Rattle.std.proofs.lemmas.Nat.{or_of_8}
 use Rattle.std.proofs.lemmas.Nat.Bits.{bit_at_or, bit_at-pow_same, bit_at-pow_other, bit_at-lt, bit_at-zero, same_from_bits_below}
+use Rattle.std.proofs.Math.Bool.{or-false, or_assoc}
+use Rattle.ddf_lemmas.proofs.Tests.{or_true}
 use Rattle.ddf_seal.specs.Unread.{AreBytes}
 use Rattle.ddf_config_records.specs.Bits.{is_set, positions, with_bit, bits_of, is_among, IsRising, AreBelow}
-
-or_false : (b : Bool) → (b || false) ≡ b
-or_false true = refl
-or_false false = refl
-
-or_true : (b : Bool) → (b || true) ≡ true
-or_true true = refl
-or_true false = refl
-
-or_assoc : (a b c : Bool) → (a || b || c) ≡ (a || (b || c))
-or_assoc true b c = refl
-or_assoc false b c = refl
 
 -- ---- one bit
 
@@ -50,7 +40,7 @@ set_one bits q p lt = elim (cases_eq p q) [
             ap (λ (b : ℕ). bit_at b (p % 8)) here ∙ bit_other (get_or bits (p / 8) 0) (q % 8) (p % 8) ne
         | inr apart ↦ ap (λ (b : ℕ). bit_at b (p % 8)) (get_or-set_other bits (q / 8) (p / 8) (bit_or (get_or bits (q / 8) 0) (2 ^ (q % 8))) 0 apart)
       ] in
-      ap (λ (b : ℕ). eqb b 1) byte ∙ sym (ap (λ (b : Bool). is_set bits p || b) (ne_eqb p q other) ∙ or_false (is_set bits p))
+      ap (λ (b : ℕ). eqb b 1) byte ∙ sym (ap (λ (b : Bool). is_set bits p || b) (ne_eqb p q other) ∙ or-false (is_set bits p))
 ]
 
 -- ---- all of them
@@ -60,7 +50,7 @@ length-bits bits [] = refl
 length-bits bits (q ∷ out) = length-bits (with_bit bits q) out ∙ length-set bits (q / 8) (bit_or (get_or bits (q / 8) 0) (2 ^ (q % 8)))
 
 set_all : (bits out : List ℕ) (p : ℕ) → p / 8 < length bits → is_set (fold with_bit bits out) p ≡ (is_set bits p || is_among out p)
-set_all bits [] p lt = sym (or_false (is_set bits p))
+set_all bits [] p lt = sym (or-false (is_set bits p))
 set_all bits (q ∷ out) p lt =
     let size = length-set bits (q / 8) (bit_or (get_or bits (q / 8) 0) (2 ^ (q % 8))) in
     set_all (with_bit bits q) out p (omega (arith, size)) ∙ ap (λ (b : Bool). b || is_among out p) (set_one bits q p lt) ∙ or_assoc (is_set bits p) (eqb p q) (is_among out p)

@@ -1,5 +1,5 @@
 -- Records over the bytes of others can be written.
-use Rattle.std.proofs.Common.{◌≡◌, ℕ, zero, suc, ◌+◌, ◌-◌, ◌*◌, ◌/◌, ◌<◌, ◌≤◌, ◌^◌, min, Bool, true, false, ◌||◌, eqb, IsTrue, List, [], ◌∷◌, length, map, take, get_or, refl, sym, ◌∙◌, ap, arith, inl, inr, Option, Some, None}
+use Rattle.std.proofs.Common.{◌≡◌, ℕ, zero, suc, ◌+◌, ◌-◌, ◌*◌, ◌/◌, ◌<◌, ◌≤◌, ◌^◌, min, Bool, true, false, ◌||◌, eqb, IsTrue, List, [], ◌∷◌, length, map, take, get_or, refl, sym, ◌∙◌, ap, arith, inl, Option, Some, None}
 use Rattle.std.specs.Prelude.{slice_index, is_some, position, slice_get}
 use Rattle.std.specs.Option.{option_and_then}
 use Rattle.std.specs.List.{AllByRecursion, range_with_len, position_from}
@@ -18,16 +18,16 @@ use Rattle.ddf_seal.proofs.Records.{written_outside}
 use Rattle.ddf_header.specs.declared.geometry.Geometry.{Geometry}
 use Rattle.ddf_header.specs.Geometry.{IsSound, is_member_maximum, record_sectors}
 use Rattle.ddf_config_records.specs.declared.spare.SpareRecord.{SpareRecord}
-use Rattle.ddf_config_records.specs.declared.layout.TheConstants.{SPARE_TIMESTAMP_AT, SPARE_KIND_AT, SPARE_POPULATED_AT, SPARE_MAXIMUM_AT, SPARE_ENTRIES_AT, SPARE_ENTRY_BYTES, SPARE_SECONDARY_AT}
+use Rattle.ddf_config_records.specs.declared.layout.TheConstants.{SPARE_POPULATED_AT, SPARE_MAXIMUM_AT, SPARE_ENTRIES_AT, SPARE_ENTRY_BYTES, SPARE_SECONDARY_AT}
 use Rattle.ddf_config_records.specs.ElementValue.{ElementValue}
 use Rattle.ddf_config_records.specs.Elements.{record_size, HasRoom, element_fields, element_fault, CanBeElement}
 use Rattle.ddf_config_records.specs.Spares.{entry_fields, spare_fields, CanBeSpare}
 use Rattle.ddf_config_records.specs.Building.{element_unread, secondary_fields, spare_entries, spare_numbers}
 use Rattle.ddf_config_records.proofs.Elements.{element_within}
 use Rattle.ddf_config_records.proofs.ElementRecords.{allowed}
-use Rattle.ddf_config_records.proofs.Spans.{within-append}
-use Rattle.ddf_config_records.proofs.Spares.{written-append, entries_within, entries_outside, spare_head_within}
+use Rattle.ddf_config_records.proofs.Spares.{written-append}
 use Rattle.ddf_config_records.proofs.Sound.{room_from_sound}
+use Rattle.ddf_config_records.proofs.SpareRecords.{count_outside, spare_within}
 
 -- ---- an element
 
@@ -67,10 +67,6 @@ pub entries_fit : (at : ℕ) (arrays : List (List ℕ)) → AllByRecursion (λ g
 entries_fit at [] all = tt
 entries_fit at (guid ∷ arrays) all = (all.0, entries_fit (at + SPARE_ENTRY_BYTES) arrays all.1)
 
-spare_within : (spare : SpareRecord) (size : ℕ) → 512 ≤ size → SPARE_ENTRIES_AT + SPARE_ENTRY_BYTES * length spare.arrays ≤ size → AreWithin size (seal_place ∷ places (spare_fields spare))
-spare_within spare size long room =
-    within-append size (seal_place ∷ record { at = SPARE_TIMESTAMP_AT; length = 4 } ∷ record { at = SPARE_KIND_AT; length = 1 } ∷ []) (places (entry_fields SPARE_ENTRIES_AT spare.arrays)) (spare_head_within size long) (entries_within SPARE_ENTRIES_AT size spare.arrays room)
-
 -- ---- the numbers that are set
 
 -- the secondary elements of so many entries from one on
@@ -107,9 +103,6 @@ record_small geometry sound =
     let few = members_small geometry.max_members sound.members_known in
     let fit : geometry.record_length ≡ record_sectors geometry.max_members = sound.records_fit in
     omega (arith, few, fit)
-
-count_outside : (spare : SpareRecord) (i : ℕ) → SPARE_POPULATED_AT ≤ i → i < SPARE_POPULATED_AT + 2 → IsOutsideAll (seal_place ∷ places (spare_fields spare)) i
-count_outside spare i low high = (inr (omega (arith, low)), (inr (omega (arith, low)), (inr (omega (arith, low)), entries_outside SPARE_ENTRIES_AT i spare.arrays (omega (arith, high)))))
 
 min_first : (a b : ℕ) → a ≤ b → min a b ≡ a
 min_first a b le = omega (arith, le)

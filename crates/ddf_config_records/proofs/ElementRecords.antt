@@ -1,12 +1,11 @@
 -- The value of an element record: what is read from bytes is it, and it is the only one.
-use Rattle.std.proofs.Common.{◌≡◌, ℕ, zero, suc, ◌+◌, ◌*◌, ◌<◌, ◌≤◌, Bool, true, false, ◌||◌, eqb, ltb, List, [], ◌∷◌, length, map, None, refl, sym, ◌∙◌, ap, arith}
+use Rattle.std.proofs.Common.{◌≡◌, ℕ, zero, suc, ◌+◌, ◌*◌, ◌<◌, ◌≤◌, ◌||◌, eqb, ltb, List, [], ◌∷◌, length, map, None, refl, sym, ◌∙◌, ap, arith}
 use Rattle.std.specs.Prelude.{slice_index}
 use Rattle.std.specs.List.{range_with_len}
 use Rattle.std.specs.Int.{w16, w32, w64}
-use Rattle.std.proofs.lemmas.Bool.{ltb-false, eqb-false}
+use Rattle.std.proofs.lemmas.Bool.{ltb-false, eqb-false, or_parts}
 use Rattle.ddf_bytes.specs.Bytes.{number_at}
-use Rattle.ddf_bytes.specs.Choices.{when}
-use Rattle.ddf_bytes.proofs.Nones.{none_first}
+use Rattle.ddf_bytes.proofs.Nones.{none_first, none_when}
 use Rattle.ddf_seal.specs.Seal.{IsSealed, seal_place}
 use Rattle.ddf_seal.specs.Unread.{AreBytes, cleared, places, numbers32_at, numbers64_at}
 use Rattle.ddf_seal.specs.Records.{record_bytes}
@@ -22,14 +21,6 @@ use Rattle.ddf_config_records.proofs.Elements.{same_place, length-members_at, el
 
 -- ---- no fault
 
-pub none_unless : {X : Type 0} (test : Bool) (x : X) → when test x ≡ None → test ≡ false
-none_unless true x h = absurd cc
-none_unless false x h = refl
-
-neither : (a b : Bool) → (a || b) ≡ false → (a ≡ false) × (b ≡ false)
-neither true b h = absurd cc
-neither false b h = (refl, h)
-
 -- an element without a fault has members, as few as are allowed
 pub record HasMembers (most members : ℕ) : Type 0 where
   pub present : 0 < members
@@ -40,9 +31,9 @@ pub has_members : (most members strip level elements index block_size : ℕ) →
 unfolding fault_of
 has_members most members strip level elements index block_size h =
     let none = none_first (element_faults_of most members strip level elements index block_size) h in
-    let all = none_unless (eqb members 0 || ltb most members || ltb 64 members) (faults.Members members) none.0 in
-    let last = neither (eqb members 0 || ltb most members) (ltb 64 members) all in
-    let two = neither (eqb members 0) (ltb most members) last.0 in
+    let all = none_when (eqb members 0 || ltb most members || ltb 64 members) (faults.Members members) none.0 in
+    let last = or_parts (eqb members 0 || ltb most members) (ltb 64 members) all in
+    let two = or_parts (eqb members 0) (ltb most members) last.0 in
     let some = eqb-false members 0 two.0 in
     record {
       present = omega arith;

@@ -1,16 +1,17 @@
 -- The value of a notes record: what is read from bytes is it, and it is the only one.
-use Rattle.std.proofs.Common.{◌≡◌, ℕ, zero, suc, ◌+◌, ◌*◌, ◌/◌, ◌<◌, ◌≤◌, Bool, true, false, ◌&&◌, cond, eqb, leb, IsTrue, List, [], ◌∷◌, ◌++◌, length, map, take, replicate, get_or, refl, sym, ◌∙◌, ap, subst, arith}
+use Rattle.std.proofs.Common.{◌≡◌, ℕ, zero, suc, ◌+◌, ◌*◌, ◌/◌, ◌<◌, ◌≤◌, Bool, true, false, cond, eqb, leb, IsTrue, List, [], ◌∷◌, ◌++◌, length, map, take, replicate, get_or, refl, sym, ◌∙◌, ap, subst, arith}
 use Rattle.std.specs.Prelude.{slice_index}
 use Rattle.std.specs.List.{AllByRecursion, list_all, range_with_len}
 use Rattle.std.proofs.lemmas.Bool.{eq-eqb, eqb-true, leb-true}
 use Rattle.std.proofs.lemmas.List.{append-nil, append_assoc, map-append, take_more, length-take-le}
 use Rattle.std.proofs.lemmas.List.FromFn.{length-map-range_with_len, map-range_with_len_more}
+use Rattle.ddf_lemmas.proofs.Tests.{both_parts}
+use Rattle.ddf_lemmas.proofs.Lists.{all_append}
 use Rattle.ddf_bytes.specs.Bytes.{bytes_at}
 use Rattle.ddf_seal.specs.declared.unread.Span.{Span}
 use Rattle.ddf_seal.specs.Seal.{seal_place}
 use Rattle.ddf_seal.specs.Unread.{AreBytes, Field, Stands, place_of, places, written}
 use Rattle.ddf_seal.proofs.Placing.{length-bytes_at}
-use Rattle.ddf_seal.proofs.Same.{both_true}
 use Rattle.ddf_seal.proofs.Spelled.{AreBytes-bytes_at}
 use Rattle.ddf_config_records.specs.declared.notes.SlotNote.{SlotNote}
 use Rattle.ddf_config_records.specs.declared.notes.Notes.{Notes}
@@ -20,24 +21,18 @@ use Rattle.ddf_config_records.specs.NoteRecords.{note_size, note_place, note_fie
 use Rattle.ddf_config_records.proofs.Bits.{positions_rise, positions_of_bits, bits_of_positions}
 use Rattle.ddf_config_records.proofs.Spares.{written-append}
 use Rattle.ddf_config_records.proofs.Tiles.{AreTiles, tiles-append}
+use Rattle.ddf_config_records.proofs.Spans.{both}
 
 -- ---- lists
-
-pub all-append : (P : Field → Type 0) (a b : List Field) → AllByRecursion P a → AllByRecursion P b → AllByRecursion P (a ++ b)
-all-append P [] b h k = k
-all-append P (field ∷ a) b h k = (h.0, all-append P a b h.1 k)
 
 pub all-split : (P : Field → Type 0) (a b : List Field) → AllByRecursion P (a ++ b) → AllByRecursion P a × AllByRecursion P b
 all-split P [] b h = (tt, h)
 all-split P (field ∷ a) b h = let rest = all-split P a b h.1 in ((h.0, rest.0), rest.1)
 
-pub both : (a b : Bool) → IsTrue a → IsTrue b → IsTrue (a && b)
-both a b h k = rw (h, k) refl
-
 pub all_are : (v : ℕ) (xs : List ℕ) → IsTrue (list_all (λ x. eqb x v) xs) → xs ≡ replicate (length xs) v
 all_are v [] h = refl
 all_are v (x ∷ xs) h =
-    let parts = both_true (eqb x v) (list_all (λ y. eqb y v) xs) h in
+    let parts = both_parts (eqb x v) (list_all (λ y. eqb y v) xs) h in
     ap (λ (n : ℕ). n ∷ xs) (eqb-true x v parts.0) ∙ ap (λ (l : List ℕ). v ∷ l) (all_are v xs parts.1)
 
 pub are_all : (v n : ℕ) → IsTrue (list_all (λ x. eqb x v) (replicate n v))
@@ -88,7 +83,7 @@ note_stands : (most : ℕ) (bytes : List ℕ) (at : ℕ) → IsTrue (is_note byt
 unfolding note_at
 note_stands most bytes at h within are whole =
     let flag = slice_index bytes at in
-    let first = both_true (leb flag 1) (eqb (slice_index bytes (at + NOTE_ZERO_AT)) 0) h in
+    let first = both_parts (leb flag 1) (eqb (slice_index bytes (at + NOTE_ZERO_AT)) 0) h in
     let bits = bytes_at bytes (at + NOTE_BITS_AT) (most / 8) in
     let size : length bits ≡ most / 8 = length-bytes_at bytes (at + NOTE_BITS_AT) (most / 8) (omega arith) in
     let same : bits ≡ bits_of (most / 8) (positions most bits) = sym (bits_of_positions most bits whole size (AreBytes-bytes_at bytes (at + NOTE_BITS_AT) (most / 8) (omega arith) are)) in
@@ -131,11 +126,11 @@ notes_stand_from : (most : ℕ) (bytes : List ℕ) (k count : ℕ) → IsTrue (l
     → 8 * (most / 8) ≡ most → AllByRecursion (Stands bytes) (all_note_fields most (note_place most k) (map (λ slot. note_at most bytes (note_place most slot)) (range_with_len k count)))
 notes_stand_from most bytes k zero h within are whole = tt
 notes_stand_from most bytes k (suc count) h within are whole =
-    let parts = both_true (is_note bytes (note_place most k)) (list_all (λ slot. is_note bytes (note_place most slot)) (range_with_len (k + 1) count)) h in
+    let parts = both_parts (is_note bytes (note_place most k)) (list_all (λ slot. is_note bytes (note_place most slot)) (range_with_len (k + 1) count)) h in
     let rest = map (λ slot. note_at most bytes (note_place most slot)) (range_with_len (k + 1) count) in
     let fits : note_place most k + note_size most ≤ length bytes = room_for most k count (length bytes) within in
     let more : note_place most (k + 1 + count) ≤ length bytes = subst (λ (n : ℕ). note_place most n ≤ length bytes) (omega arith) within in
-    all-append (Stands bytes) (note_fields most (note_place most k) (note_at most bytes (note_place most k))) (all_note_fields most (note_place most k + note_size most) rest)
+    all_append (Stands bytes) (note_fields most (note_place most k) (note_at most bytes (note_place most k))) (all_note_fields most (note_place most k + note_size most) rest)
     (note_stands most bytes (note_place most k) parts.0 fits are whole)
     (subst (λ (at : ℕ). AllByRecursion (Stands bytes) (all_note_fields most at rest)) (next_place most k) (notes_stand_from most bytes (k + 1) count parts.1 more are whole))
 

@@ -7,12 +7,13 @@ use Rattle.std.specs.Str.{bytes_eq}
 use Rattle.std.proofs.lemmas.Bool.{eq-eqb, eqb-true, leb-true, le-leb}
 use Rattle.std.proofs.lemmas.List.{take_rest, length-drop, length-replicate}
 use Rattle.std.proofs.lemmas.Slice.Eq.{bytes_eq-Decides}
+use Rattle.ddf_lemmas.proofs.Tests.{both_parts}
+use Rattle.ddf_lemmas.proofs.Lists.{all_append}
 use Rattle.ddf_bytes.specs.Bytes.{bytes_at, number_at}
 use Rattle.ddf_seal.specs.Seal.{IsSealed, seal_place}
 use Rattle.ddf_seal.specs.Unread.{AreBytes, Stands, cleared, places}
 use Rattle.ddf_seal.specs.Records.{record_bytes}
 use Rattle.ddf_seal.proofs.Placing.{length-bytes_at}
-use Rattle.ddf_seal.proofs.Same.{both_true}
 use Rattle.ddf_seal.proofs.Records.{record_again, record_from_bytes, record_written, length-record_bytes}
 use Rattle.ddf_header.specs.declared.geometry.Geometry.{Geometry}
 use Rattle.ddf_config_records.specs.declared.notes.SlotNote.{SlotNote}
@@ -22,7 +23,8 @@ use Rattle.ddf_config_records.specs.Elements.{record_size}
 use Rattle.ddf_config_records.specs.Vendors.{vendor_signature}
 use Rattle.ddf_config_records.specs.NoteRecords.{note_place, all_note_fields, head_fields, filling, notes_fields, CanBeNotes, IsNotesOf, is_note, is_headed, is_named, has_numbers, is_notes, notes_of_slots, notes_at}
 use Rattle.ddf_config_records.proofs.Tiles.{AreTiles, tiles_within, tiles_apart, tiles_cleared}
-use Rattle.ddf_config_records.proofs.NoteRecords.{all-append, all-split, both, all_are, are_all, notes_tiles, length-notes_of_slots, slots_stand, slots_rise, slots_read, slots_test}
+use Rattle.ddf_config_records.proofs.NoteRecords.{all-split, all_are, are_all, notes_tiles, length-notes_of_slots, slots_stand, slots_rise, slots_read, slots_test}
+use Rattle.ddf_config_records.proofs.Spans.{both}
 
 -- ---- the filling
 
@@ -55,12 +57,12 @@ notes_at_is geometry count bytes size are sealed whole test =
     let zeros = list_all (λ x. eqb x 0) (bytes_at bytes NOTES_ZEROS_AT 16) in
     let each = list_all (λ slot. is_note bytes (note_place most slot)) (range_with_len 0 count) in
     let filled = list_all (λ x. eqb x 255) (drop at bytes) in
-    let top = both_true (is_headed most count bytes) (leb at (length bytes) && (each && filled)) test in
-    let head = both_true named (has_numbers most count bytes && zeros) top.0 in
-    let numbers = both_true (has_numbers most count bytes) zeros head.1 in
-    let counts = both_true (eqb (number_at w16 bytes NOTES_SLOTS_AT) count) (eqb (number_at w16 bytes NOTES_MEMBERS_AT) most) numbers.0 in
-    let body = both_true (leb at (length bytes)) (each && filled) top.1 in
-    let body2 = both_true each filled body.1 in
+    let top = both_parts (is_headed most count bytes) (leb at (length bytes) && (each && filled)) test in
+    let head = both_parts named (has_numbers most count bytes && zeros) top.0 in
+    let numbers = both_parts (has_numbers most count bytes) zeros head.1 in
+    let counts = both_parts (eqb (number_at w16 bytes NOTES_SLOTS_AT) count) (eqb (number_at w16 bytes NOTES_MEMBERS_AT) most) numbers.0 in
+    let body = both_parts (leb at (length bytes)) (each && filled) top.1 in
+    let body2 = both_parts each filled body.1 in
     let fits : at ≤ length bytes = leb-true at (length bytes) body.0 in
     let long : NOTES_AT ≤ length bytes = omega arith in
     let counted : length slots ≡ count = length-notes_of_slots most count bytes in
@@ -72,7 +74,7 @@ notes_at_is geometry count bytes size are sealed whole test =
     let head_stands : AllByRecursion (Stands bytes) (head_fields most notes) = (refl, (name, (refl, (number, (allowed, (none, tt)))))) in
     let last : Stands bytes (filling most (record_size geometry) (length slots)) =
     subst (λ (n : ℕ). Stands bytes (filling most (record_size geometry) n)) (sym counted) (filling_stands most (record_size geometry) count bytes size body2.1) in
-    let tail = all-append (Stands bytes) (all_note_fields most NOTES_AT slots) (filling most (record_size geometry) (length slots) ∷ []) (slots_stand most count bytes body2.0 fits are whole) (last, tt) in
+    let tail = all_append (Stands bytes) (all_note_fields most NOTES_AT slots) (filling most (record_size geometry) (length slots) ∷ []) (slots_stand most count bytes body2.0 fits are whole) (last, tt) in
     let spans = seal_place ∷ places (notes_fields most (record_size geometry) notes) in
     let tiles = notes_tiles most (record_size geometry) notes (subst (λ (n : ℕ). note_place most n ≤ record_size geometry) (sym counted) room) in
     record {
@@ -83,7 +85,7 @@ notes_at_is geometry count bytes size are sealed whole test =
       is_record = record {
         are_bytes = are;
         is_sealed = sealed;
-        fields_stand = all-append (Stands bytes) (head_fields most notes) (all_note_fields most NOTES_AT slots ++ filling most (record_size geometry) (length slots) ∷ []) head_stands tail;
+        fields_stand = all_append (Stands bytes) (head_fields most notes) (all_note_fields most NOTES_AT slots ++ filling most (record_size geometry) (length slots) ∷ []) head_stands tail;
         others_stay = ap (λ (n : ℕ). replicate n 0) (sym size) ∙ sym (tiles_cleared spans bytes (subst (λ (n : ℕ). AreTiles 0 spans n) (sym size) tiles));
       };
     }

@@ -1,8 +1,10 @@
 -- Lists that are made of a range, and the first that is there in them.
-use Rattle.std.proofs.Common.{◌≡◌, ℕ, zero, suc, ◌+◌, ◌<◌, List, [], ◌∷◌, length, map, Option, Some, None, refl, sym, ◌∙◌, ap, arith}
+use Rattle.std.proofs.Common.{◌≡◌, ℕ, zero, suc, ◌+◌, ◌<◌, List, length, map, Option, Some, None, refl, sym, ◌∙◌, ap, arith}
 use Rattle.std.specs.Prelude.{slice_get}
 use Rattle.std.specs.Option.{option_or}
 use Rattle.std.specs.List.{range_with_len}
+use Rattle.ddf_lemmas.proofs.Lists.{placed_all}
+use Rattle.ddf_lemmas.proofs.Options.{none_of_both}
 use Rattle.ddf_bytes.specs.Choices.{first_of}
 
 abbrev some : {X : Type 0} → X → Option X
@@ -13,17 +15,13 @@ some_is x y e = cc
 
 -- ---- the first
 
-first_none : {X : Type 0} (o p : Option X) → option_or o p ≡ None → (o ≡ None) × (p ≡ None)
-first_none None p h = (refl, h)
-first_none (Some x) p h = absurd cc
-
 first_found_from : {X : Type 0} (f : ℕ → Option X) (k i n : ℕ) (x : X) → first_of (map f (range_with_len k i)) ≡ None → i < n → f (k + i) ≡ Some x → first_of (map f (range_with_len k n)) ≡ Some x
 first_found_from f k i zero x none lt h = absurd (omega arith)
 first_found_from f k zero (suc n) x none lt h =
     let here : k ≡ k + 0 = omega arith in
     ap (λ o. option_or o (first_of (map f (range_with_len (k + 1) n)))) (ap f here ∙ h)
 first_found_from {X} f k (suc i) (suc n) x none lt h =
-    let parts = first_none (f k) (first_of (map f (range_with_len (k + 1) i))) none in
+    let parts = none_of_both (f k) (first_of (map f (range_with_len (k + 1) i))) none in
     let there : k + suc i ≡ k + 1 + i = omega arith in
     ap (λ o. option_or o (first_of (map f (range_with_len (k + 1) n)))) parts.0
     ∙ first_found_from f (k + 1) i n x parts.1 (omega arith) (ap f (sym there) ∙ h)
@@ -38,7 +36,7 @@ none_more_from f k zero none h =
     let here : k ≡ k + 0 = omega arith in
     ap (λ o. option_or o None) (ap f here ∙ h)
 none_more_from f k (suc i) none h =
-    let parts = first_none (f k) (first_of (map f (range_with_len (k + 1) i))) none in
+    let parts = none_of_both (f k) (first_of (map f (range_with_len (k + 1) i))) none in
     let there : k + suc i ≡ k + 1 + i = omega arith in
     ap (λ o. option_or o (first_of (map f (range_with_len (k + 1) (suc i))))) parts.0 ∙ none_more_from f (k + 1) i parts.1 (ap f (sym there) ∙ h)
 
@@ -51,11 +49,11 @@ none_more f i none h =
 each_none_from : {X : Type 0} (f : ℕ → Option X) (k n : ℕ) → first_of (map f (range_with_len k n)) ≡ None → (i : ℕ) → i < n → f (k + i) ≡ None
 each_none_from f k zero h i lt = absurd (omega arith)
 each_none_from f k (suc n) h zero lt =
-    let parts = first_none (f k) (first_of (map f (range_with_len (k + 1) n))) h in
+    let parts = none_of_both (f k) (first_of (map f (range_with_len (k + 1) n))) h in
     let here : k + 0 ≡ k = omega arith in
     ap f here ∙ parts.0
 each_none_from f k (suc n) h (suc i) lt =
-    let parts = first_none (f k) (first_of (map f (range_with_len (k + 1) n))) h in
+    let parts = none_of_both (f k) (first_of (map f (range_with_len (k + 1) n))) h in
     let there : k + suc i ≡ k + 1 + i = omega arith in
     ap f there ∙ each_none_from f (k + 1) n parts.1 i (omega arith)
 
@@ -93,17 +91,9 @@ get_made f n i x h =
     let here : i ≡ 0 + i = omega arith in
     (parts.0, ap f here ∙ parts.1)
 
-made_from : {X : Type 0} (f : ℕ → X) (k : ℕ) (xs : List X) → ((i : ℕ) (x : X) → slice_get xs i ≡ Some x → f (k + i) ≡ x) → map f (range_with_len k (length xs)) ≡ xs
-made_from f k [] h = refl
-made_from {X} f k (x ∷ xs) h =
-    let here : k ≡ k + 0 = omega arith in
-    let first : f k ≡ x = ap f here ∙ h 0 x refl in
-    let rest = made_from f (k + 1) xs (λ i y e. let there : k + 1 + i ≡ k + suc i = omega arith in ap f there ∙ h (suc i) y e) in
-    ap (λ (y : X). y ∷ map f (range_with_len (k + 1) (length xs))) first ∙ ap (λ (l : List X). x ∷ l) rest
-
 -- a list whose items are what a function gives
 pub made_all : {X : Type 0} (f : ℕ → X) (xs : List X) → ((i : ℕ) (x : X) → slice_get xs i ≡ Some x → f i ≡ x) → map f (range_with_len 0 (length xs)) ≡ xs
-made_all f xs h = made_from f 0 xs (λ i x e. let here : 0 + i ≡ i = omega arith in ap f here ∙ h i x e)
+made_all f xs h = placed_all f 0 xs (λ i x e. let here : 0 + i ≡ i = omega arith in ap f here ∙ h i x e)
 
 -- the first of what two functions give, which give the same
 same_from : {X Y : Type 0} (g : X → Option Y) (h : ℕ → Option Y) (f : ℕ → X) (k n : ℕ) → ((i : ℕ) → i < n → g (f (k + i)) ≡ h (k + i)) → first_of (map g (map f (range_with_len k n))) ≡ first_of (map h (range_with_len k n))

@@ -4,6 +4,7 @@ use Rattle.std.specs.Prelude.{is_none}
 use Rattle.std.specs.Int.{w32, from_be_bytes}
 use Rattle.std.proofs.lemmas.Bool.{eq-eqb, ne_eqb, eqb-true}
 use Rattle.std.proofs.lemmas.Nat.{from_be_bytes-to_be_bytes_4}
+use Rattle.ddf_lemmas.proofs.Tests.{all_false, or_three}
 use Rattle.ddf_bytes.specs.Bytes.{bytes_at, number_at}
 use Rattle.ddf_bytes.specs.Choices.{when}
 use Rattle.ddf_seal.specs.Seal.{IsSealed}
@@ -43,9 +44,6 @@ cond_three P true b c w x y z hw hx hy hz = hw refl
 cond_three P false true c w x y z hw hx hy hz = hx refl refl
 cond_three P false false true w x y z hw hx hy hz = hy refl refl refl
 cond_three P false false false w x y z hw hx hy hz = hz refl refl refl
-
-or_three : (a b c : Bool) → a ≡ false → b ≡ false → c ≡ false → (a || b || c) ≡ false
-or_three a b c ha hb hc = rw (ha, hb, hc) refl
 
 first_known : (a b c : Bool) → a ≡ true → (a || b || c) ≡ true
 first_known a b c h = rw h refl
@@ -118,11 +116,6 @@ at_spare most count listed bytes h =
     let second = ne_eqb (number_at w32 bytes 0) vendor_signature (λ e. omega (arith, h, e)) in
     let third = eq-eqb (number_at w32 bytes 0) spare_signature h in
     rw (first, second, third) refl
-
-all_false : (a b c : Bool) → (a || b || c) ≡ false → (a ≡ false) × (b ≡ false) × (c ≡ false)
-all_false true b c h = absurd cc
-all_false false true c h = absurd cc
-all_false false false c h = (refl, refl, h)
 
 at_unused : (most count : ℕ) (listed : Bool) (bytes : List ℕ) → is_known (number_at w32 bytes 0) ≡ false → slot_at most count listed bytes ≡ slots.Unused bytes
 unfolding slot_at

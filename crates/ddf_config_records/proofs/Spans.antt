@@ -2,12 +2,13 @@
 use Rattle.std.proofs.Common.{ℕ, ◌+◌, ◌≤◌, Bool, ◌&&◌, leb, IsTrue, List, [], ◌∷◌, ◌++◌, refl, arith, inl}
 use Rattle.std.specs.List.{AllByRecursion, list_all}
 use Rattle.std.proofs.lemmas.Bool.{le-leb}
+use Rattle.ddf_lemmas.proofs.Lists.{all_append}
 use Rattle.ddf_seal.specs.declared.unread.Span.{Span}
 use Rattle.ddf_seal.specs.Unread.{is_within}
 use Rattle.ddf_seal.proofs.Same.{AreWithin}
 use Rattle.ddf_seal.proofs.Records.{AreApart, AreAllApart}
 
-both : (a b : Bool) → IsTrue a → IsTrue b → IsTrue (a && b)
+pub both : (a b : Bool) → IsTrue a → IsTrue b → IsTrue (a && b)
 both a b h k = rw (h, k) refl
 
 -- the test that the code's contract names
@@ -31,12 +32,8 @@ pub one_apart : (at : ℕ) (span : Span) (b : List Span) → span.at + span.leng
 one_apart at span [] h k = tt
 one_apart at span (other ∷ b) h k = (inl (omega (arith, k.0)), one_apart at span b h k.1)
 
-all-append : (P : Span → Type 0) (a b : List Span) → AllByRecursion P a → AllByRecursion P b → AllByRecursion P (a ++ b)
-all-append P [] b h k = k
-all-append P (span ∷ a) b h k = (h.0, all-append P a b h.1 k)
-
 -- spans before an offset, and spans from there on
 pub apart-append : (at : ℕ) (a b : List Span) → AreWithin at a → AreFrom at b → AreAllApart a → AreAllApart b → AreAllApart (a ++ b)
 apart-append at [] b within from h k = k
 apart-append at (span ∷ a) b within from h k =
-    (all-append (AreApart span) a b h.0 (one_apart at span b within.0 from), apart-append at a b within.1 from h.1 k)
+    (all_append (AreApart span) a b h.0 (one_apart at span b within.0 from), apart-append at a b within.1 from h.1 k)

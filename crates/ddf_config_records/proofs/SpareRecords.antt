@@ -42,7 +42,7 @@ entries_read bytes guids h = read_from bytes 0 guids h
 
 -- ---- places
 
-spare_within : (spare : SpareRecord) (size : ℕ) → 512 ≤ size → SPARE_ENTRIES_AT + SPARE_ENTRY_BYTES * length spare.arrays ≤ size → AreWithin size (seal_place ∷ places (spare_fields spare))
+pub spare_within : (spare : SpareRecord) (size : ℕ) → 512 ≤ size → SPARE_ENTRIES_AT + SPARE_ENTRY_BYTES * length spare.arrays ≤ size → AreWithin size (seal_place ∷ places (spare_fields spare))
 spare_within spare size long room =
     within-append size (seal_place ∷ record { at = SPARE_TIMESTAMP_AT; length = 4 } ∷ record { at = SPARE_KIND_AT; length = 1 } ∷ []) (places (entry_fields SPARE_ENTRIES_AT spare.arrays)) (spare_head_within size long) (entries_within SPARE_ENTRIES_AT size spare.arrays room)
 
@@ -56,7 +56,7 @@ pub count_fits : (bytes : List ℕ) → SPARE_ENTRIES_AT ≤ length bytes → SP
 count_fits bytes long = omega arith
 
 -- no field is in the place of the populated count
-count_outside : (spare : SpareRecord) (i : ℕ) → SPARE_POPULATED_AT ≤ i → i < SPARE_POPULATED_AT + 2 → IsOutsideAll (seal_place ∷ places (spare_fields spare)) i
+pub count_outside : (spare : SpareRecord) (i : ℕ) → SPARE_POPULATED_AT ≤ i → i < SPARE_POPULATED_AT + 2 → IsOutsideAll (seal_place ∷ places (spare_fields spare)) i
 count_outside spare i low high = (inr (omega arith), (inr (omega arith), (inr (omega arith), entries_outside SPARE_ENTRIES_AT i spare.arrays (omega arith))))
 
 -- the rest has the populated count of the bytes

@@ -1,8 +1,9 @@
 -- Slots that are written one after another.
-use Rattle.std.proofs.Common.{◌≡◌, ℕ, zero, suc, ◌+◌, ◌*◌, ◌<◌, List, [], ◌∷◌, ◌++◌, length, take, drop, get_or, Some, refl, sym, ◌∙◌, ap, subst, arith}
+use Rattle.std.proofs.Common.{◌≡◌, ℕ, zero, suc, ◌+◌, ◌*◌, ◌<◌, List, [], ◌∷◌, ◌++◌, length, take, drop, get_or, Some, refl, sym, ◌∙◌, ap, subst, arith, take-add}
 use Rattle.std.specs.Prelude.{slice_get}
 use Rattle.std.proofs.lemmas.List.{length-append, append_assoc, append-nil, drop-drop, take_at, drop_at, take_more}
 use Rattle.std.proofs.lemmas.List.Concat.{flat_map-append}
+use Rattle.std.proofs.lemmas.Option.{slice_get_within}
 use Rattle.ddf_bytes.specs.Bytes.{bytes_at}
 use Rattle.ddf_seal.specs.Unread.{AreBytes}
 use Rattle.ddf_seal.proofs.Spelled.{AreBytes-bytes_at}
@@ -52,15 +53,6 @@ slot_of_written geometry (first ∷ all) tail have (suc i) slot at =
 abbrev none : List ℕ
 none = []
 
-take_none : (n : ℕ) → none ≡ take n none
-take_none zero = refl
-take_none (suc n) = refl
-
-take_two : (m n : ℕ) (xs : List ℕ) → take (m + n) xs ≡ take m xs ++ take n (drop m xs)
-take_two zero n xs = let here : zero + n ≡ n = omega arith in ap (λ (k : ℕ). take k xs) here
-take_two (suc m) n [] = let here : suc m + n ≡ suc (m + n) = omega arith in ap (λ (k : ℕ). take k []) here ∙ take_none n
-take_two (suc m) n (x ∷ xs) = let here : suc m + n ≡ suc (m + n) = omega arith in ap (λ (k : ℕ). take k (x ∷ xs)) here ∙ ap (λ (l : List ℕ). x ∷ l) (take_two m n xs)
-
 same_from : (geometry : Geometry) (section : List ℕ) (k : ℕ) (all : List RecordSlot) → ((i : ℕ) (slot : RecordSlot) → slice_get all i ≡ Some slot → slot_written geometry slot ≡ slot_bytes geometry section (k + i))
     → slots_written geometry all ≡ bytes_at section (k * record_size geometry) (length all * record_size geometry)
 same_from geometry section k [] each =
@@ -76,7 +68,7 @@ same_from geometry section k (slot ∷ all) each =
     ap (λ (l : List ℕ). l ++ slots_written geometry all) first ∙ ap (λ (l : List ℕ). slot_bytes geometry section k ++ l) rest
     ∙ ap (λ (n : ℕ). slot_bytes geometry section k ++ take (length all * size) (drop n section)) next
     ∙ ap (λ (l : List ℕ). slot_bytes geometry section k ++ take (length all * size) l) (sym (drop-drop size (k * size) section))
-    ∙ sym (take_two size (length all * size) (drop (k * size) section)) ∙ ap (λ (n : ℕ). take n (drop (k * size) section)) (sym more)
+    ∙ sym (take-add size (length all * size) (drop (k * size) section)) ∙ ap (λ (n : ℕ). take n (drop (k * size) section)) (sym more)
 
 -- Slots are written as the bytes that they are the value of.
 pub written_again : (geometry : Geometry) (group : List ℕ) (sequence : ℕ) (all : List RecordSlot) (section : List ℕ) → HasRoom geometry → AreSlotsOf geometry group sequence all section
@@ -90,11 +82,6 @@ written_again geometry group sequence all section room are =
 
 -- ---- the bytes that slots are written as
 
-get_within : (all : List RecordSlot) (i : ℕ) (slot : RecordSlot) → slice_get all i ≡ Some slot → i < length all
-get_within [] i slot h = absurd cc
-get_within (x ∷ all) zero slot h = omega arith
-get_within (x ∷ all) (suc i) slot h = let rest = get_within all i slot h in omega arith
-
 pub have_size : (geometry : Geometry) (group : List ℕ) (sequence : ℕ) (all : List RecordSlot) → HasRoom geometry → CanBeSlots geometry group sequence all → HaveSize geometry all
 have_size geometry group sequence all room can = λ i slot at. slot_length geometry (length all) (lists (valid_notes group sequence all) i) slot room (can.each i slot at)
 
@@ -107,10 +94,10 @@ written_are geometry group sequence all section tail room can same counted are =
     record {
       counted = counted;
       each = λ i slot at.
-          let lt : i < slot_count geometry section = subst (λ (n : ℕ). i < n) counted (get_within all i slot at) in
+          let lt : i < slot_count geometry section = subst (λ (n : ℕ). i < n) counted (slice_get_within all i slot at) in
           let bytes : slot_bytes geometry section i ≡ slot_written geometry slot = ap (λ (l : List ℕ). slot_bytes geometry l i) same ∙ slot_of_written geometry all tail have i slot at in
           let each = AreBytes-bytes_at section (i * size) size (slot_within geometry section i lt) are in
-          let is = slot_made geometry (length all) (lists (valid_notes group sequence all) i) slot room (omega (arith, get_within all i slot at)) (can.each i slot at) (subst AreBytes bytes each) in
+          let is = slot_made geometry (length all) (lists (valid_notes group sequence all) i) slot room (omega (arith, slice_get_within all i slot at)) (can.each i slot at) (subst AreBytes bytes each) in
           subst (λ (l : List ℕ). IsSlotOf geometry (length all) (lists (valid_notes group sequence all) i) slot l) (sym bytes) is;
     }
 

@@ -1,7 +1,6 @@
 -- A copy that has room in one place can be written in both.
-use Rattle.std.proofs.Common.{◌≡◌, ◌⊎◌, ℕ, zero, suc, ◌+◌, ◌-◌, ◌<◌, ◌≤◌, Bool, true, false, not, ◌&&◌, ◌||◌, eqb, leb, ltb, List, [], ◌∷◌, Option, Some, None, refl, sym, ap, ◌∙◌, eq-eqb, inl, inr, arith}
-use Rattle.std.proofs.lemmas.Bool.{cases_lt, le-ltb, ne_eqb}
-use Rattle.std.proofs.lemmas.Bool.Decides.{leb_tells}
+use Rattle.std.proofs.Common.{◌≡◌, ◌⊎◌, ℕ, zero, suc, ◌+◌, ◌-◌, ◌<◌, ◌≤◌, Bool, true, false, not, ◌&&◌, eqb, ltb, List, [], ◌∷◌, Option, Some, None, refl, sym, ap, ◌∙◌, eq-eqb, inl, inr, arith}
+use Rattle.std.proofs.lemmas.Bool.{cases_lt, le-ltb, ne_eqb, lt-leb, or_parts}
 use Rattle.std.proofs.lemmas.Iterator.Adapters.{position_from-zero}
 use Rattle.std.specs.Prelude.{slice_get}
 use Rattle.std.specs.List.{list_any, position, position_from, range_with_len}
@@ -27,30 +26,14 @@ use Rattle.ddf_header.specs.declared.layout.TheConstants.{PRIMARY_LBA_AT, SECOND
 use Rattle.ddf_header.specs.Header.{IsHeaderOf}
 use Rattle.ddf_copy.specs.Which.{kind_of}
 use Rattle.std.proofs.Common.{Err}
+use Rattle.std.proofs.Math.Bool.{and-false, and_comm}
 use Rattle.ddf_copy.specs.Faults.{IsCopyFaultOf, copy_failed}
 use Rattle.ddf_copy.specs.declared.fault.CopyFault.{CopyFault}
 use Rattle.ddf_copy.specs.declared.fault.CopyFault.TheVariants as faults
 use Rattle.ddf_copy.proofs.Anchored.{anchor_shares}
 
-and_turn : (a b : Bool) → (a && b) ≡ (b && a)
-and_turn true true = refl
-and_turn true false = refl
-and_turn false true = refl
-and_turn false false = refl
-
-and_false : (a : Bool) → (a && false) ≡ false
-and_false true = refl
-and_false false = refl
-
-or_false : (a b : Bool) → (a || b) ≡ false → (a ≡ false) × (b ≡ false)
-or_false true b h = absurd cc
-or_false false b h = (refl, h)
-
 share_turn : (one many other more : ℕ) → share one many other more ≡ share other more one many
-share_turn one many other more = and_turn (ltb one (other + more)) (ltb other (one + many))
-
-not_le : (a b : ℕ) → b < a → leb a b ≡ false
-not_le a b lt = elim (leb_tells a b) [ inl below ↦ absurd (omega (arith, below.1, lt)) | inr above ↦ above.0 ]
+share_turn one many other more = and_comm (ltb one (other + more)) (ltb other (one + many))
 
 -- ---- lists of sections
 
@@ -65,8 +48,8 @@ same_item x y e = cc
 
 any_none : (p : Section → Bool) (sections : List Section) → list_any p sections ≡ false → AllAt p sections
 any_none p [] h index section at = absurd cc
-any_none p (x ∷ xs) h zero section at = ap p (sym (same_item x section at)) ∙ (or_false (p x) (list_any p xs) h).0
-any_none p (x ∷ xs) h (suc index) section at = any_none p xs (or_false (p x) (list_any p xs) h).1 index section at
+any_none p (x ∷ xs) h zero section at = ap p (sym (same_item x section at)) ∙ (or_parts (p x) (list_any p xs) h).0
+any_none p (x ∷ xs) h (suc index) section at = any_none p xs (or_parts (p x) (list_any p xs) h).1 index section at
 
 none_any : (p : Section → Bool) (sections : List Section) → AllAt p sections → list_any p sections ≡ false
 none_any p [] all = refl
@@ -87,17 +70,17 @@ no_sector : (lba at many : ℕ) (section : Section) → (0 < section.length → 
 no_sector lba at many section apart = ⊎_elim' (cases_lt 0 section.length)
   where
     ⊎_elim' : (0 < section.length) ⊎ (section.length ≤ 0) → has_sector_of lba at many section ≡ false
-    ⊎_elim' (inl some) = rw (apart some) (and_false (not (is_absent section)))
+    ⊎_elim' (inl some) = rw (apart some) (and-false (not (is_absent section)))
     ⊎_elim' (inr none) = let zero_is : section.length ≡ 0 = omega (arith, none) in rw (eq-eqb section.length 0 zero_is) refl
 
 module _ (last own other : ℕ) (sections : List Section) (h : room_fault last own other sections ≡ None) where
   headers_apart : (share own 1 other 1 ≡ false) × (list_any (has_sector_of other own 1) sections ≡ false)
-  headers_apart = or_false (share own 1 other 1) (list_any (has_sector_of other own 1) sections) (headers_in_room last own other sections h).is_apart
+  headers_apart = or_parts (share own 1 other 1) (list_any (has_sector_of other own 1) sections) (headers_in_room last own other sections h).is_apart
 
   section_apart : (index : ℕ) (section : Section) → slice_get sections index ≡ Some section → 0 < section.length
       → (share (own + section.offset) section.length other 1 ≡ false) × (list_any (has_sector_of other (own + section.offset) section.length) sections ≡ false)
   section_apart index section at some =
-      or_false (share (own + section.offset) section.length other 1) (list_any (has_sector_of other (own + section.offset) section.length) sections) (section_in_room last own other sections h index section at some).is_apart
+      or_parts (share (own + section.offset) section.length other 1) (list_any (has_sector_of other (own + section.offset) section.length) sections) (section_in_room last own other sections h index section at some).is_apart
 
   header_turn : meets_copy own sections other 1 ≡ false
   header_turn =
@@ -124,15 +107,15 @@ module _ (last own other : ℕ) (sections : List Section) (h : room_fault last o
           let part = section_in_room last own other sections h index section at some in
           let one = le-ltb last (other + section.offset + section.length) part.other_ends in
           let two = le-ltb last (own + section.offset + section.length) part.ends in
-          rw (one, two, section_turn index section at some) (and_false (not (is_absent section)))
+          rw (one, two, section_turn index section at some) (and-false (not (is_absent section)))
       by_length (inr none) = let zero_is : section.length ≡ 0 = omega (arith, none) in rw (eq-eqb section.length 0 zero_is) refl
 
   pub room_turn : room_fault last other own sections ≡ None
   unfolding room_fault has_no_room
   room_turn =
       let headers = headers_in_room last own other sections h in
-      let one = not_le last other headers.other_below in
-      let two = not_le last own headers.own_below in
+      let one = lt-leb last other headers.other_below in
+      let two = lt-leb last own headers.own_below in
       let none : position (is_out_of_room last other own sections) sections ≡ None =
       position_from-zero (is_out_of_room last other own sections) sections ∙ none_at (is_out_of_room last other own sections) 0 sections in_room_turn in
       rw (one, two, header_turn, none) refl

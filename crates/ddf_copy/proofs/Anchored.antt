@@ -1,6 +1,6 @@
 -- The anchor of a disk shares its bytes with the headers of its copies.
 use Rattle.std.proofs.Common.{◌≡◌, ◌⊎◌, ℕ, zero, suc, ◌+◌, ◌<◌, ◌≤◌, ◌^◌, Bool, true, false, not, ◌&&◌, ◌||◌, leb, ltb, List, [], ◌∷◌, length, get_or, Option, Some, None, refl, sym, ap, ◌∙◌, subst, inl, inr, arith, eq-eqb}
-use Rattle.std.proofs.lemmas.Bool.{leb-true, ltb-true}
+use Rattle.std.proofs.lemmas.Bool.{leb-true, ltb-true, and_parts, or_cases}
 use Rattle.std.proofs.lemmas.Iterator.Adapters.{position_from-zero}
 use Rattle.std.specs.Prelude.{slice_get}
 use Rattle.std.specs.List.{AllByRecursion, position_from, range_with_len}
@@ -150,23 +150,15 @@ same_is : (byte : Option ℕ) → is_same_byte byte byte ≡ true
 same_is (Some byte) = eq-eqb byte byte refl
 same_is None = refl
 
-both : (a b : Bool) → (a && b) ≡ true → (a ≡ true) × (b ≡ true)
-both true b h = (refl, h)
-both false b h = absurd cc
-
-either : (a b : Bool) → (a || b) ≡ true → (a ≡ true) ⊎ (b ≡ true)
-either true b h = inl refl
-either false b h = inr h
-
 in_range : (low high at : ℕ) → (leb low at && ltb at high) ≡ true → (low ≤ at) × (at < high)
 in_range low high at h =
-    let parts = both (leb low at) (ltb at high) h in
+    let parts = and_parts (leb low at) (ltb at high) h in
     (leb-true low at parts.0, ltb-true at high parts.1)
 
 shared_from : (at : ℕ) → is_shared at ≡ true → IsShared at
 shared_from at h =
-    elim (either ((leb GUID_AT at && ltb at SEQUENCE_AT) || (leb PRIMARY_LBA_AT at && ltb at KIND_AT)) (leb WORKSPACE_LENGTH_AT at && ltb at 512) h) [
-      | inl before ↦ elim (either (leb GUID_AT at && ltb at SEQUENCE_AT) (leb PRIMARY_LBA_AT at && ltb at KIND_AT) before) [
+    elim (or_cases ((leb GUID_AT at && ltb at SEQUENCE_AT) || (leb PRIMARY_LBA_AT at && ltb at KIND_AT)) (leb WORKSPACE_LENGTH_AT at && ltb at 512) h) [
+      | inl before ↦ elim (or_cases (leb GUID_AT at && ltb at SEQUENCE_AT) (leb PRIMARY_LBA_AT at && ltb at KIND_AT) before) [
         | inl head ↦ inl (in_range GUID_AT SEQUENCE_AT at head)
         | inr middle ↦ inr (inl (in_range PRIMARY_LBA_AT KIND_AT at middle))
       ]

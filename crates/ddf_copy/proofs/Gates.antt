@@ -1,12 +1,13 @@
 -- What a header without a fault has.
-use Rattle.std.proofs.Common.{◌≡◌, ℕ, zero, suc, ◌+◌, ◌-◌, ◌*◌, ◌<◌, ◌≤◌, Bool, true, false, cond, not, ◌||◌, ◌&&◌, eqb, ltb, List, [], ◌∷◌, Option, Some, None, Result, Ok, Err, leb, refl, sym, ◌∙◌, ap, arith}
+use Rattle.std.proofs.Common.{◌≡◌, ℕ, ◌+◌, ◌-◌, ◌*◌, ◌<◌, ◌≤◌, Bool, true, false, cond, not, ◌||◌, ◌&&◌, eqb, ltb, List, [], ◌∷◌, Option, Some, None, Result, Ok, Err, leb, refl, sym, ◌∙◌, ap, arith}
 use Rattle.std.specs.Prelude.{slice_get, option_map}
-use Rattle.std.specs.List.{position, position_from}
+use Rattle.std.specs.List.{position}
 use Rattle.std.proofs.lemmas.Bool.{leb-false, ne_eqb, ltb-false, eqb-true}
 use Rattle.std.proofs.lemmas.Iterator.Adapters.{position_from-zero}
 use Rattle.ddf_header.specs.declared.geometry.Section.{Section}
 use Rattle.ddf_header.specs.declared.reading.Header.{Header}
 use Rattle.std.specs.Int.{w64}
+use Rattle.ddf_lemmas.proofs.Tests.{all_false}
 use Rattle.ddf_bytes.specs.Bytes.{bytes_at, number_at}
 use Rattle.ddf_bytes.specs.Choices.{first_of, ok_unless, when}
 use Rattle.ddf_header.specs.declared.fault.HeaderFault.{HeaderFault}
@@ -15,6 +16,7 @@ use Rattle.ddf_header.specs.declared.layout.TheConstants.{GUID_AT, PRIMARY_LBA_A
 use Rattle.ddf_header.proofs.Decoded.{decoded_is}
 use Rattle.ddf_header.specs.Header.{IsHeaderOf, decoded, first_fault, header_at}
 use Rattle.ddf_header.specs.Geometry.{geometry_at}
+use Rattle.ddf_header.proofs.Sound.{none_passes}
 use Rattle.ddf_copy.specs.declared.which.Which.{Which}
 use Rattle.ddf_copy.specs.declared.fault.CopyFault.{CopyFault}
 use Rattle.ddf_copy.specs.declared.fault.CopyFault.TheVariants as faults
@@ -22,23 +24,6 @@ use Rattle.ddf_copy.specs.Faults.{copy_failed}
 use Rattle.ddf_copy.specs.Gate.{gated, header_in, header_of, first_difference, gate_fault, header_bytes}
 use Rattle.ddf_copy.specs.Room.{DoFit, has_no_room, is_out_of_room, meets_copy, room_fault}
 use Rattle.ddf_copy.specs.Which.{kind_of, other_of, place_of}
-
--- ---- no place passes
-
-abbrev some_item : {X : Type 0} → X → Option X
-some_item x = Some x
-
-same_item : {X : Type 0} (x y : X) → some_item x ≡ some_item y → x ≡ y
-same_item x y e = cc
-
-first_fails : (b : Bool) (n : ℕ) (rest : Option ℕ) → cond b (Some n) rest ≡ None → (b ≡ false) × (rest ≡ None)
-first_fails true n rest h = absurd cc
-first_fails false n rest h = (refl, h)
-
-pub none_passes : {X : Type 0} (p : X → Bool) (n : ℕ) (xs : List X) (i : ℕ) (x : X) → position_from p n xs ≡ None → slice_get xs i ≡ Some x → p x ≡ false
-none_passes p n [] i x h at = absurd cc
-none_passes p n (y ∷ ys) zero x h at = ap p (sym (same_item y x at)) ∙ (first_fails (p y) n (position_from p (n + 1) ys) h).0
-none_passes p n (y ∷ ys) (suc i) x h at = none_passes p (n + 1) ys i x (first_fails (p y) n (position_from p (n + 1) ys) h).1 at
 
 -- ---- the faults of a header, in order
 
@@ -119,7 +104,7 @@ sections_fit last own other sections h = λ index section at some. (section_in_r
 
 -- ---- a header that was read
 
-ok_parts : {E : Type 0} (o : Option E) (value header : Header) → ok_unless o value ≡ Ok header → (o ≡ None) × (value ≡ header)
+pub ok_parts : {E : Type 0} (o : Option E) (value header : Header) → ok_unless o value ≡ Ok header → (o ≡ None) × (value ≡ header)
 ok_parts None value header h = (refl, cc)
 ok_parts (Some e) value header h = absurd cc
 
@@ -130,7 +115,7 @@ gated_parts size anchor which sector (Ok value) header h =
     (ap Ok parts.1, rw parts.1 at parts.0)
 gated_parts size anchor which sector (Err fault) header h = absurd cc
 
-placed_parts : (within : Bool) (found : Result Header CopyFault) (header : Header) → cond within found (Err (faults.Room 0)) ≡ Ok header → found ≡ Ok header
+pub placed_parts : (within : Bool) (found : Result Header CopyFault) (header : Header) → cond within found (Err (faults.Room 0)) ≡ Ok header → found ≡ Ok header
 placed_parts true found header h = h
 placed_parts false found header h = absurd cc
 
@@ -158,11 +143,6 @@ found_is size sector anchor which header h =
 
 -- ---- the headers have room
 
-neither : (own other meeting : Bool) → (own || other || meeting) ≡ false → (own ≡ false) × (other ≡ false) × (meeting ≡ false)
-neither true other meeting h = absurd cc
-neither false true meeting h = absurd cc
-neither false false meeting h = (refl, refl, h)
-
 pub record AreHeadersInRoom (last own other : ℕ) (sections : List Section) : Type 0 where
   pub own_below : own < last
   pub other_below : other < last
@@ -172,7 +152,7 @@ pub headers_in_room : (last own other : ℕ) (sections : List Section) → room_
 unfolding room_fault has_no_room
 headers_in_room last own other sections h =
     let none = no_header (has_no_room last own other sections) (option_map (λ index. SECTIONS_AT + 8 * index) (position (is_out_of_room last own other sections) sections)) h in
-    let parts = neither (leb last own) (leb last other) (meets_copy other sections own 1) none.0 in
+    let parts = all_false (leb last own) (leb last other) (meets_copy other sections own 1) none.0 in
     record { own_below = leb-false last own parts.0; other_below = leb-false last other parts.1; is_apart = parts.2 }
 
 -- ---- a header that stands in its sector

@@ -1,8 +1,9 @@
 -- A copy is read from its bytes.
-use Rattle.std.proofs.Common.{◌≡◌, ℕ, zero, suc, ◌+◌, ◌*◌, List, [], ◌∷◌, ◌++◌, length, map, Ok, refl, sym, ap, ◌∙◌, arith}
+use Rattle.std.proofs.Common.{◌≡◌, ℕ, zero, suc, ◌+◌, ◌*◌, List, [], ◌++◌, length, map, Ok, refl, sym, ap, ◌∙◌, arith}
 use Rattle.std.proofs.lemmas.List.{length-append}
 use Rattle.std.proofs.lemmas.List.FromFn.{length-map-range_with_len}
 use Rattle.std.specs.List.{flat_map, range_with_len}
+use Rattle.ddf_lemmas.proofs.Lists.{append_parts}
 use Rattle.ddf_header.specs.declared.geometry.Section.{Section}
 use Rattle.ddf_header.specs.declared.geometry.Geometry.{Geometry}
 use Rattle.ddf_header.specs.declared.reading.Header.{Header}
@@ -20,17 +21,6 @@ use Rattle.ddf_copy.specs.Which.{kind_of, place_of}
 use Rattle.ddf_copy.proofs.Stands.{header_stands, place_within}
 
 -- ---- pieces
-
--- two pieces of one length, each before the rest of one list, are the same, and so is the rest
-same_pieces : (one rest other others : List ℕ) → length one ≡ length other → one ++ rest ≡ other ++ others → (one ≡ other) × (rest ≡ others)
-same_pieces [] rest [] others long same = (refl, same)
-same_pieces [] rest (y ∷ other) others long same = absurd (omega (arith, long))
-same_pieces (x ∷ one) rest [] others long same = absurd (omega (arith, long))
-same_pieces (x ∷ one) rest (y ∷ other) others long same =
-    let heads : x ≡ y = cc in
-    let tails : one ++ rest ≡ other ++ others = cc in
-    let pieces = same_pieces one rest other others (omega (arith, long)) tails in
-    (rw (heads, pieces.0) refl, pieces.1)
 
 -- the sections are the same, by the bytes of their sectors
 pub record AreSame (one other : Raw) : Type 0 where
@@ -64,13 +54,13 @@ sections_same : (sector : ℕ → List ℕ) (lba : ℕ) (geometry : Geometry) (r
     → flat_map (λ section. section) (raw_bytes (raw_at sector lba geometry)) ≡ flat_map (λ section. section) (raw_bytes raw) → AreSame (raw_at sector lba geometry) raw
 sections_same sector lba geometry raw long sizes are same =
     let s = λ (k : ℕ). section_of geometry k in
-    let controller = same_pieces (sector (lba + (s 0).offset)) _ raw.controller _ (long (lba + (s 0).offset) ∙ sym are.controller_long) same in
-    let disks = same_pieces (bytes_in (sectors_at sector lba (s 1))) _ (bytes_in raw.disks) _ (same_long sector long lba (s 1) raw.disks sizes.disks_size are.disks_long) controller.1 in
-    let arrays = same_pieces (bytes_in (sectors_at sector lba (s 2))) _ (bytes_in raw.arrays) _ (same_long sector long lba (s 2) raw.arrays sizes.arrays_size are.arrays_long) disks.1 in
+    let controller = append_parts (sector (lba + (s 0).offset)) _ raw.controller _ (long (lba + (s 0).offset) ∙ sym are.controller_long) same in
+    let disks = append_parts (bytes_in (sectors_at sector lba (s 1))) _ (bytes_in raw.disks) _ (same_long sector long lba (s 1) raw.disks sizes.disks_size are.disks_long) controller.1 in
+    let arrays = append_parts (bytes_in (sectors_at sector lba (s 2))) _ (bytes_in raw.arrays) _ (same_long sector long lba (s 2) raw.arrays sizes.arrays_size are.arrays_long) disks.1 in
     let records =
-    same_pieces (bytes_in (sectors_at sector lba (whole_slots geometry))) _ (bytes_in raw.records) _ (same_long sector long lba (whole_slots geometry) raw.records sizes.records_size are.records_long) arrays.1 in
-    let disk_data = same_pieces (sector (lba + (s 4).offset)) _ raw.disk_data _ (long (lba + (s 4).offset) ∙ sym are.disk_data_long) records.1 in
-    let bad_blocks = same_pieces (bytes_in (sectors_at sector lba (s 5))) [] (bytes_in raw.bad_blocks) [] (same_long sector long lba (s 5) raw.bad_blocks sizes.bad_blocks_size are.bad_blocks_long) disk_data.1 in
+    append_parts (bytes_in (sectors_at sector lba (whole_slots geometry))) _ (bytes_in raw.records) _ (same_long sector long lba (whole_slots geometry) raw.records sizes.records_size are.records_long) arrays.1 in
+    let disk_data = append_parts (sector (lba + (s 4).offset)) _ raw.disk_data _ (long (lba + (s 4).offset) ∙ sym are.disk_data_long) records.1 in
+    let bad_blocks = append_parts (bytes_in (sectors_at sector lba (s 5))) [] (bytes_in raw.bad_blocks) [] (same_long sector long lba (s 5) raw.bad_blocks sizes.bad_blocks_size are.bad_blocks_long) disk_data.1 in
     record {
       controller_is = controller.0;
       disks_are = disks.0;
@@ -95,7 +85,7 @@ pub image_stands : (size : ℕ) (sector : ℕ → List ℕ) (anchor : Header) (w
 unfolding copy_of
 image_stands size sector anchor which copy head raw image is bytes under holds =
     let lba = place_of which anchor in
-    let pieces = same_pieces (sector lba) _ head _ (holds.sectors_long lba ∙ sym is.is_header.size) (holds.bytes_are ∙ bytes) in
+    let pieces = append_parts (sector lba) _ head _ (holds.sectors_long lba ∙ sym is.is_header.size) (holds.bytes_are ∙ bytes) in
     let header = header_stands size sector anchor which (closed_header copy which) head is.is_header pieces.0 (place_within size anchor copy which under) (under.has_gate which) in
     let same = sections_same sector lba copy.header.geometry raw holds.sectors_long is.has_sizes is.are_long pieces.1 in
     rw header (same_read (closed_header copy which) (raw_at sector lba copy.header.geometry) raw same ∙ is.is_read (closed_header copy which) refl refl refl)

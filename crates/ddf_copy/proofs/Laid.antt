@@ -1,10 +1,11 @@
 -- The sections of a copy lie apart, before the last sector, and apart from the other copy.
-use Rattle.std.proofs.Common.{◌≡◌, ◌⊎◌, ℕ, zero, suc, ◌+◌, ◌*◌, ◌/◌, ◌<◌, ◌≤◌, Bool, true, false, not, ◌&&◌, ◌||◌, eqb, ltb, List, [], ◌∷◌, length, take, Option, Some, None, unwrap_or, refl, sym, ap, ◌∙◌, inl, inr, ⊎_elim, arith}
-use Rattle.std.proofs.lemmas.Bool.{ltb-false, ne_eqb}
+use Rattle.std.proofs.Common.{◌≡◌, ◌⊎◌, ℕ, zero, suc, ◌+◌, ◌*◌, ◌/◌, ◌<◌, ◌≤◌, Bool, true, false, not, ◌&&◌, eqb, ltb, List, [], ◌∷◌, length, take, Option, Some, None, unwrap_or, refl, sym, ap, ◌∙◌, inl, inr, ⊎_elim, arith}
+use Rattle.std.proofs.lemmas.Bool.{ltb-false, ne_eqb, or_parts}
 use Rattle.std.proofs.lemmas.Option.{slice_get-get_or}
 use Rattle.std.proofs.Math.Nat.{div-mul-le_self, le-div_iff_mul-le, mul-le-mul_right}
 use Rattle.std.specs.Prelude.{slice_get}
 use Rattle.std.specs.List.{list_any}
+use Rattle.ddf_lemmas.proofs.Lists.{none_any}
 use Rattle.ddf_header.specs.declared.geometry.Section.{Section}
 use Rattle.ddf_header.specs.declared.geometry.Geometry.{Geometry}
 use Rattle.ddf_header.specs.Geometry.{IsSound, least_bytes, meets, section_numbers, section_of}
@@ -46,16 +47,7 @@ section_found geometry k eight lt =
 
 -- ---- apart from one another
 
-first_not : (here others : Bool) → (here || others) ≡ false → (here ≡ false) × (others ≡ false)
-first_not true others e = absurd cc
-first_not false others e = (refl, e)
-
-none_any : {X : Type 0} (p : X → Bool) (xs : List X) (i : ℕ) (x : X) → list_any p xs ≡ false → slice_get xs i ≡ Some x → p x ≡ false
-none_any p [] i x h at = absurd cc
-none_any p (y ∷ ys) zero x h at = let same : y ≡ x = cc in rw same at (first_not (p y) (list_any p ys) h).0
-none_any p (y ∷ ys) (suc i) x h at = none_any p ys i x (first_not (p y) (list_any p ys) h).1 at
-
-get_take : (xs : List Section) (count i : ℕ) → i < count → slice_get (take count xs) i ≡ slice_get xs i
+pub get_take : (xs : List Section) (count i : ℕ) → i < count → slice_get (take count xs) i ≡ slice_get xs i
 get_take xs zero i lt = absurd (omega (arith, lt))
 get_take [] (suc count) i lt = refl
 get_take (x ∷ xs) (suc count) zero lt = refl
@@ -147,7 +139,7 @@ copy_below last own other geometry runs laid room l in_copy = ⊎_elim
 
 -- ---- apart from the other copy
 
-unshared : (one many other more l : ℕ) → share one many other more ≡ false → one ≤ l → l < one + many → other ≤ l → l < other + more → ⊥
+pub unshared : (one many other more l : ℕ) → share one many other more ≡ false → one ≤ l → l < one + many → other ≤ l → l < other + more → ⊥
 unshared one many other more l none a b c d = ⊎_elim
     (λ no. omega (arith, b, c, a, d, ltb-false one (other + more) no))
     (λ no. omega (arith, a, b, c, d, ltb-false other (one + many) no))
@@ -158,7 +150,7 @@ unshared one many other more l none a b c d = ⊎_elim
     either true false h = inr refl
     either false b h = inl refl
 
-unmet_run : (geometry : Geometry) → length geometry.sections ≡ 8 → (lba at many l k : ℕ) (runs : List Run) → AreWithin geometry k runs → list_any (has_sector_of lba at many) geometry.sections ≡ false
+pub unmet_run : (geometry : Geometry) → length geometry.sections ≡ 8 → (lba at many l k : ℕ) (runs : List Run) → AreWithin geometry k runs → list_any (has_sector_of lba at many) geometry.sections ≡ false
     → at ≤ l → l < at + many → RunsCover lba runs l → ⊥
 unmet_run geometry eight lba at many l k [] within none from below in_runs = in_runs
 unmet_run geometry eight lba at many l k (run ∷ runs) within none from below in_runs = ⊎_elim
@@ -179,7 +171,7 @@ unmet_run geometry eight lba at many l k (run ∷ runs) within none from below i
 -- a run of sectors that meets no part of a copy has none of its sectors
 unmet : (geometry : Geometry) (runs : List Run) → AreLaid geometry runs → (lba at many l : ℕ) → meets_copy lba geometry.sections at many ≡ false → at ≤ l → l < at + many → IsInCopy lba runs l → ⊥
 unmet geometry runs laid lba at many l none from below in_copy =
-    let parts = first_not (share at many lba 1) (list_any (has_sector_of lba at many) geometry.sections) none in
+    let parts = or_parts (share at many lba 1) (list_any (has_sector_of lba at many) geometry.sections) none in
     ⊎_elim
     (λ (here : l ≡ lba). unshared at many lba 1 l parts.0 from below (omega (arith, here)) (omega (arith, here)))
     (λ in_runs. unmet_run geometry laid.are_eight lba at many l 0 runs laid.are_within parts.1 from below in_runs)

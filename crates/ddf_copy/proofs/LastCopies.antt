@@ -30,7 +30,7 @@ abbrev HasHeader : Header → Result DiskCopy CopyFault → Type 0
 HasHeader header (Ok copy) = copy.header ≡ header
 HasHeader header (Err fault) = Unit {0}
 
-ok_or : {A : Type 0} (read : Result A CopyFault) → ((value : A) × (read ≡ Ok value)) ⊎ ((fault : CopyFault) × (read ≡ Err fault))
+pub ok_or : {A : Type 0} (read : Result A CopyFault) → ((value : A) × (read ≡ Ok value)) ⊎ ((fault : CopyFault) × (read ≡ Err fault))
 ok_or (Ok value) = inl (value, refl)
 ok_or (Err fault) = inr (fault, refl)
 

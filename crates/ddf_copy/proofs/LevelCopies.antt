@@ -1,6 +1,6 @@
 -- Level copies: the same sequence, and the same bytes where they are compared.
-use Rattle.std.proofs.Common.{◌≡◌, ℕ, Bool, true, false, ◌&&◌, eqb, List, [], ◌∷◌, refl, ap, ◌∙◌, sym}
-use Rattle.std.proofs.lemmas.Bool.{eq-eqb, eqb-true, false≢true}
+use Rattle.std.proofs.Common.{◌≡◌, ℕ, true, eqb, List, [], ◌∷◌, refl, ap, ◌∙◌, sym}
+use Rattle.std.proofs.lemmas.Bool.{eq-eqb, eqb-true, false≢true, and_parts}
 use Rattle.std.proofs.lemmas.Slice.Eq.{bytes_eq-Decides}
 use Rattle.std.specs.Str.{bytes_eq}
 use Rattle.ddf_copy.specs.declared.copy.DiskCopy.{DiskCopy}
@@ -9,16 +9,12 @@ use Rattle.ddf_copy.specs.Headers.{written_as}
 use Rattle.ddf_copy.specs.Shows.{IsSame}
 use Rattle.ddf_copy.specs.Written.{are_same, counted, is_level}
 
-both_true : (a b : Bool) → (a && b) ≡ true → (a ≡ true) × (b ≡ true)
-both_true true b h = (refl, h)
-both_true false b h = absurd (false≢true h)
-
 same_from : (one other : List (List ℕ)) → are_same one other ≡ true → one ≡ other
 same_from [] [] h = refl
 same_from [] (y ∷ ys) h = absurd (false≢true h)
 same_from (x ∷ xs) [] h = absurd (false≢true h)
 same_from (x ∷ xs) (y ∷ ys) h =
-    let parts = both_true (bytes_eq x y) (are_same xs ys) h in
+    let parts = and_parts (bytes_eq x y) (are_same xs ys) h in
     let first : x ≡ y = (bytes_eq-Decides x y).0 parts.0 in
     let rest : xs ≡ ys = same_from xs ys parts.1 in
     rw (first, rest) refl
@@ -32,7 +28,7 @@ same_again (x ∷ xs) =
 pub level_from : (one other : DiskCopy) → is_level one other ≡ true → (one.header.sequence ≡ other.header.sequence) × (counted one ≡ counted other)
 unfolding is_level
 level_from one other h =
-    let parts = both_true (eqb one.header.sequence other.header.sequence) (are_same (counted one) (counted other)) h in
+    let parts = and_parts (eqb one.header.sequence other.header.sequence) (are_same (counted one) (counted other)) h in
     (eqb-true one.header.sequence other.header.sequence parts.0, same_from (counted one) (counted other) parts.1)
 
 pub level_is : (one other : DiskCopy) → one.header.sequence ≡ other.header.sequence → counted one ≡ counted other → is_level one other ≡ true

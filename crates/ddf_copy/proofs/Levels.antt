@@ -92,7 +92,7 @@ slots_differ one other differ =
 
 -- ---- the bytes of a slot
 
-room_of : (copy : DiskCopy) → CanBeCopy copy → HasRoom copy.header.geometry
+pub room_of : (copy : DiskCopy) → CanBeCopy copy → HasRoom copy.header.geometry
 room_of copy is = room_from_sound copy.header.geometry (sound copy.header.geometry is.header_can.is_header.has_geometry)
 
 records_are : (whole : Whole) → IsWhole whole → slots_written whole.copy.header.geometry whole.copy.slots ≡ bytes_in whole.raw.records

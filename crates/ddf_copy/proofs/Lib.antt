@@ -16,3 +16,4 @@ pub mod Sectors
 pub mod Shared
 pub mod Slots
 pub mod Stands
+pub mod Common

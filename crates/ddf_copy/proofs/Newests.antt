@@ -36,7 +36,7 @@ either_is level primary secondary when = elim (cases_lt primary.header.sequence 
   ]
 ]
 
-turned : (primary secondary : DiskCopy) → is_level secondary primary ≡ true → is_level primary secondary ≡ true
+pub turned : (primary secondary : DiskCopy) → is_level secondary primary ≡ true → is_level primary secondary ≡ true
 turned primary secondary level =
     let parts = level_from secondary primary level in
     level_is primary secondary (sym parts.0) (sym parts.1)

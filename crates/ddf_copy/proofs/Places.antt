@@ -1,6 +1,7 @@
 -- Where copies that are read stand: all that are read under one anchor have the same places and sections.
 use Rattle.std.proofs.Common.{◌≡◌, ◌⊎◌, ◌∙◌, inl, inr, ⊎_elim, ℕ, Bool, true, false, List, Some, Result, Ok, Err, if◌then◌else◌, ap, sym, arith}
 use Rattle.std.specs.Prelude.{nat_lt}
+use Rattle.std.proofs.lemmas.Option.{same_Some}
 use Rattle.ddf_header.specs.declared.reading.Header.{Header}
 use Rattle.ddf_header.specs.declared.layout.TheConstants.{PRIMARY_LBA_AT, SECONDARY_LBA_AT}
 use Rattle.ddf_copy.specs.declared.copy.DiskCopy.{DiskCopy}
@@ -41,24 +42,21 @@ module _ (size : ℕ) (anchor : Header) (here there : ℕ → List ℕ) (one oth
 
 -- ---- the copy that stands for a disk is read of one of its places
 
-some_same : {X : Type 0} (one other : X) → Some one ≡ Some other → one ≡ other
-some_same one other e = cc
-
 of_both : (level : Bool) (primary secondary copy : DiskCopy) → standing_copy (newest_of_both level primary secondary) ≡ Some copy → (primary ≡ copy) ⊎ (secondary ≡ copy)
 of_both level primary secondary copy is = by (nat_lt primary.header.sequence secondary.header.sequence) (nat_lt secondary.header.sequence primary.header.sequence) level is
   where
     by : (less more same : Bool)
         → standing_copy (if less then newests.One Secondary secondary else if more then newests.One Primary primary else if same then newests.Level primary else newests.TwoDiffer primary secondary) ≡ Some copy
         → (primary ≡ copy) ⊎ (secondary ≡ copy)
-    by true more same e = inr (some_same secondary copy e)
-    by false true same e = inl (some_same primary copy e)
-    by false false true e = inl (some_same primary copy e)
-    by false false false e = inl (some_same primary copy e)
+    by true more same e = inr (same_Some secondary copy e)
+    by false true same e = inl (same_Some primary copy e)
+    by false false true e = inl (same_Some primary copy e)
+    by false false false e = inl (same_Some primary copy e)
 
-of_parts : (level : Bool) (primary secondary : Result DiskCopy CopyFault) (copy : DiskCopy) → standing_copy (newest_in level primary secondary) ≡ Some copy → (primary ≡ Ok copy) ⊎ (secondary ≡ Ok copy)
+pub of_parts : (level : Bool) (primary secondary : Result DiskCopy CopyFault) (copy : DiskCopy) → standing_copy (newest_in level primary secondary) ≡ Some copy → (primary ≡ Ok copy) ⊎ (secondary ≡ Ok copy)
 of_parts level (Ok primary) (Ok secondary) copy is = ⊎_elim (λ same. inl (ap Ok same)) (λ same. inr (ap Ok same)) (of_both level primary secondary copy is)
-of_parts level (Ok primary) (Err fault) copy is = inl (ap Ok (some_same primary copy is))
-of_parts level (Err fault) (Ok secondary) copy is = inr (ap Ok (some_same secondary copy is))
+of_parts level (Ok primary) (Err fault) copy is = inl (ap Ok (same_Some primary copy is))
+of_parts level (Err fault) (Ok secondary) copy is = inr (ap Ok (same_Some secondary copy is))
 of_parts level (Err first) (Err second) copy is = absurd cc
 
 pub standing_whole : (size : ℕ) (sector : ℕ → List ℕ) (anchor : Header) (copy : DiskCopy) → standing_copy (newest_of size sector anchor) ≡ Some copy → (which : Which) × (copy_of size sector anchor which ≡ Ok copy)

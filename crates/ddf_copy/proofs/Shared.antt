@@ -5,11 +5,13 @@ use Rattle.std.proofs.lemmas.Iterator.Adapters.{position_from-zero}
 use Rattle.std.specs.Prelude.{slice_get}
 use Rattle.std.specs.List.{range_with_len}
 use Rattle.std.specs.Int.{Width, byte_len, from_be_bytes, w16, w32, w64}
+use Rattle.ddf_lemmas.proofs.Lists.{slice_get-range}
+use Rattle.ddf_lemmas.proofs.Tests.{or_true}
 use Rattle.ddf_bytes.specs.Bytes.{bytes_at, number_at}
 use Rattle.ddf_header.specs.declared.layout.TheConstants.{GUID_AT, SEQUENCE_AT, PRIMARY_LBA_AT, KIND_AT, WORKSPACE_LENGTH_AT, WORKSPACE_LBA_AT, MAX_DISKS_AT, MAX_ARRAYS_AT, MAX_PARTITIONS_AT, RECORD_LENGTH_AT, MAX_MEMBERS_AT, SECTIONS_AT}
 use Rattle.ddf_header.specs.Geometry.{geometry_at}
+use Rattle.ddf_header.proofs.Sound.{none_passes}
 use Rattle.ddf_copy.specs.Gate.{differ_at, first_difference, is_same_byte, is_shared}
-use Rattle.ddf_copy.proofs.Gates.{none_passes}
 
 -- ---- byte by byte
 
@@ -24,15 +26,10 @@ not_differ true true h is = refl
 not_differ true false h is = absurd cc
 not_differ false same h is = absurd cc
 
-in_range : (from count i : ℕ) → i < count → slice_get (range_with_len from count) i ≡ Some (from + i)
-in_range from zero i lt = absurd (omega (arith, lt))
-in_range from (suc count) zero lt = ap Some (omega arith)
-in_range from (suc count) (suc i) lt = in_range (from + 1) count i (omega (arith, lt)) ∙ ap Some (omega arith)
-
 pub same_at : (one other : List ℕ) → first_difference one other ≡ None → (at : ℕ) → at < 512 → is_shared at ≡ true → slice_get one at ≡ slice_get other at
 unfolding first_difference
 same_at one other h at lt shared =
-    let here : slice_get (range_with_len 0 512) at ≡ Some at = in_range 0 512 at lt ∙ ap Some (omega arith) in
+    let here : slice_get (range_with_len 0 512) at ≡ Some at = slice_get-range 0 512 at lt ∙ ap Some (omega arith) in
     let differ : differ_at one other at ≡ false = none_passes (differ_at one other) 0 (range_with_len 0 512) at at (sym (position_from-zero (differ_at one other) (range_with_len 0 512)) ∙ h) here in
     same_byte (slice_get one at) (slice_get other at) (not_differ (is_shared at) (is_same_byte (slice_get one at) (slice_get other at)) differ shared)
 
@@ -61,10 +58,6 @@ bytes_same one other at count same =
     take_same count (drop at one) (drop at other) (λ i lt. get_drop at one i ∙ same (at + i) (omega arith) (omega (arith, lt)) ∙ sym (get_drop at other i))
 
 -- ---- what they share
-
-or_true : (b : Bool) → (b || true) ≡ true
-or_true true = refl
-or_true false = refl
 
 shared_head : (at : ℕ) → GUID_AT ≤ at → at < SEQUENCE_AT → is_shared at ≡ true
 shared_head at from below = rw (le-leb GUID_AT at from, lt-ltb at SEQUENCE_AT below) refl

@@ -1,7 +1,8 @@
 -- A copy that stands on a disk is read there, and is read as long as its sectors stay.
-use Rattle.std.proofs.Common.{◌≡◌, ℕ, zero, suc, ◌+◌, ◌-◌, ◌<◌, ◌≤◌, List, [], ◌∷◌, length, map, Result, Ok, Err, None, refl, ap, ◌∙◌, inl, inr, arith}
+use Rattle.std.proofs.Common.{◌≡◌, ℕ, suc, ◌+◌, ◌-◌, ◌<◌, List, [], ◌∷◌, length, map, Result, Ok, Err, None, refl, ap, ◌∙◌, inl, inr, arith}
 use Rattle.std.proofs.lemmas.Bool.{lt-ltb}
 use Rattle.std.specs.List.{range_with_len}
+use Rattle.ddf_lemmas.proofs.Lists.{same_map}
 use Rattle.ddf_bay.specs.Sectors.{InRun}
 use Rattle.ddf_header.specs.declared.geometry.Section.{Section}
 use Rattle.ddf_header.specs.declared.geometry.Geometry.{Geometry}
@@ -26,13 +27,6 @@ use Rattle.ddf_copy.proofs.Gates.{found_is, gate_from, headers_in_room}
 use Rattle.ddf_copy.proofs.Shared.{shared_geometry}
 
 -- ---- as long as its sectors stay
-
-same_map : (one other : ℕ → List ℕ) (start count : ℕ) → ((l : ℕ) → start ≤ l → l < start + count → one l ≡ other l) → map one (range_with_len start count) ≡ map other (range_with_len start count)
-same_map one other start zero same = refl
-same_map one other start (suc count) same =
-    let first : one start ≡ other start = same start (omega arith) (omega arith) in
-    let rest = same_map one other (start + 1) count (λ l from below. same l (omega (arith, from)) (omega (arith, below))) in
-    rw (first, rest) refl
 
 raw_record : (controller : List ℕ) (disks arrays records : List (List ℕ)) (disk_data : List ℕ) (bad_blocks : List (List ℕ)) → Raw
 raw_record controller disks arrays records disk_data bad_blocks =

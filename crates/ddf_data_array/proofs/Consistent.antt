@@ -1,7 +1,9 @@
 -- An array whose mark is cleared, and one whose blocks count from now on.
 use Rattle.std.proofs.Common.{◌≡◌, ◌∙◌, ℕ, ◌/◌, ◌<◌, Bool, true, false, not, List, [], ◌∷◌, Option, Some, None, refl, sym, ap, subst, arith, map, length, slice_get}
-use Rattle.std.specs.Prelude.{is_some, option_map, option_and_then, if◌then◌else◌}
+use Rattle.std.specs.Prelude.{option_map, option_and_then, if◌then◌else◌}
 use Rattle.std.proofs.lemmas.Option.{slice_get_within}
+use Rattle.ddf_lemmas.proofs.Lists.{first_get, mapped_at, same_some_bytes}
+use Rattle.ddf_lemmas.proofs.Options.{some_from_is_some}
 use Rattle.ddf_bay.specs.Sectors.{Image}
 use Rattle.ddf_primary.proofs.Needs.{parity_keeps}
 use Rattle.ddf_secondary.specs.declared.spot.Spot.{Spot}
@@ -15,7 +17,6 @@ use Rattle.ddf_array.specs.Sources.{Source, copy, row, copies, rows, every_sourc
 use Rattle.ddf_array.specs.Values.{bytes_at, given, value}
 use Rattle.ddf_array.specs.Redundant.{IsRedundant}
 use Rattle.ddf_array.specs.Sound.{AreSectors, HasParity, IsSound}
-use Rattle.ddf_array.proofs.Losses.{at_front, mapped_at}
 use Rattle.ddf_cells.specs.Degraded.{is_degraded}
 use Rattle.ddf_cells.proofs.Whole.{whole_site}
 use Rattle.ddf_data_array.specs.Allowed.{Allowed, May, once_consistent}
@@ -37,23 +38,15 @@ cell_below v block from = by (slice_get (spots v.tiers) block) refl from.is_spot
 pub block_below : (v : Volume) (block : ℕ) (source : Source) → IsFrom v block source → block < capacity v
 block_below v block source from = cell_below v block (cell_of v block source from)
 
-pub some_item : {X : Type 0} (o : Option X) → is_some o ≡ true → (x : X) × (o ≡ Some x)
-some_item None e = absurd (cc)
-some_item (Some x) e = (x, refl)
-
 -- a read may use each available cell
 copy_read_by : (v : Volume) (block k : ℕ) (one : Site) → slice_get (copies v block) k ≡ Some one → (b : Bool)
     → slice_get (if b then every_source v block else map copy (copies v block)) k ≡ Some (copy one)
-copy_read_by v block k one at true = at_front (map copy (copies v block)) (map row (rows v block)) k (copy one) (mapped_at copy (copies v block) k one at)
+copy_read_by v block k one at true = first_get (map copy (copies v block)) (map row (rows v block)) k (copy one) (mapped_at copy (copies v block) k one at)
 copy_read_by v block k one at false = mapped_at copy (copies v block) k one at
 
 pub copy_reads : (is_absent : ℕ → ℕ → Bool) (v : Volume) (image : Image) (allowed : Allowed) → IsKeptData is_absent v image allowed → (block k : ℕ) (one : Site) → slice_get (copies v block) k ≡ Some one
     → May (allowed block) (bytes_at image one)
 copy_reads is_absent v image allowed kept block k one at = kept.reads block k (copy one) (copy_read_by v block k one at (not v.marked))
-
-same_bytes : (o : Option (List ℕ)) (one other : List ℕ) → o ≡ Some one → o ≡ Some other → one ≡ other
-same_bytes None one other a b = absurd (cc)
-same_bytes (Some bytes) one other a b = cc
 
 -- in a redundant array each copy has the value
 pub copy_value : (v : Volume) (image : Image) → IsRedundant v image → (block k : ℕ) (one : Site) → slice_get (copies v block) k ≡ Some one → value v image block ≡ Some (bytes_at image one)
@@ -63,8 +56,8 @@ copy_value v image is block k one at = is.agree block k (copy one) (copy_read_by
 pub source_may : (is_absent : ℕ → ℕ → Bool) (v : Volume) (image : Image) (allowed : Allowed) → IsKeptData is_absent v image allowed → IsRedundant v image → HaveCells v
     → (block k : ℕ) (source : Source) → slice_get (every_source v block) k ≡ Some source → May (allowed block) (given image source)
 source_may is_absent v image allowed kept is have block k source at =
-    let first = some_item (slice_get (copies v block) 0) (have block (block_below v block source (source_from v block k source at))) in
-    let same = same_bytes (value v image block) (bytes_at image first.0) (given image source) (copy_value v image is block 0 first.0 first.1) (is.agree block k source at) in
+    let first = some_from_is_some (slice_get (copies v block) 0) (have block (block_below v block source (source_from v block k source at))) in
+    let same = same_some_bytes (value v image block) (bytes_at image first.0) (given image source) (copy_value v image is block 0 first.0 first.1) (is.agree block k source at) in
     subst (May (allowed block)) same (copy_reads is_absent v image allowed kept block 0 first.0 first.1)
 
 sound_now : (is_absent : ℕ → ℕ → Bool) (marked : Bool) (v : Volume) (image : Image) → AreSectors image → IsConsistentNow is_absent v image → IsSound is_absent (with_mark marked v) image

@@ -1,9 +1,10 @@
 -- What an array with fewer available places can be read from, it could be read from before.
-use Rattle.std.proofs.Common.{◌≡◌, ◌∙◌, ⊎_elim, ℕ, zero, suc, ◌+◌, ◌≤◌, Bool, true, false, not, List, [], ◌∷◌, Option, Some, None, refl, sym, ap, subst, arith, map, length, get_or, slice_get, ◌&&◌, ◌||◌}
-use Rattle.std.specs.Prelude.{nat_le, is_some, count_by, option_map, option_and_then, if◌then◌else◌}
+use Rattle.std.proofs.Common.{◌≡◌, ◌∙◌, ⊎_elim, ℕ, zero, suc, ◌+◌, ◌≤◌, Bool, true, false, not, List, [], ◌∷◌, Option, Some, None, refl, sym, ap, subst, arith, map, length, get_or, slice_get, ◌&&◌}
+use Rattle.std.specs.Prelude.{nat_le, is_some, option_map, if◌then◌else◌}
 use Rattle.std.specs.List.{list_any, list_all}
 use Rattle.std.proofs.lemmas.Bool.{leb-true, le-leb}
 use Rattle.std.proofs.lemmas.List.Sums.{sum_by-cons}
+use Rattle.ddf_lemmas.proofs.Tests.{and_keeps, one_less_where_kept, or_keeps, true_false}
 use Rattle.ddf_primary.specs.Placement.{Placement}
 use Rattle.ddf_primary.specs.declared.need.Need.{Need}
 use Rattle.ddf_primary.specs.declared.need.Need.TheVariants.{All, One, AllButOne, Neighbours}
@@ -22,6 +23,8 @@ use Rattle.ddf_array.specs.Volume.{Volume}
 use Rattle.ddf_array.specs.Cells.{element_cells, block_spots, spots_like, is_in_every}
 use Rattle.ddf_array.specs.Sources.{Source, copy, row, all_of, other_positions, row_without}
 use Rattle.ddf_array.specs.Within.{is_part_within, is_mirrored, is_within}
+use Rattle.ddf_array.proofs.LossLevels.{away}
+use Rattle.ddf_array.proofs.Losses.{all_keep}
 use Rattle.ddf_data_array.specs.Fewer.{IsSamePlace, IsAlikePlace, IsFewerPlace, ArePlaces, AreFewerParts, IsFewer}
 use Rattle.ddf_data_array.proofs.From.{Gives, IsFrom}
 
@@ -60,23 +63,6 @@ same_count P [] [] are = refl
 same_count P [] (after ∷ afters) are = absurd are
 same_count P (before ∷ befores) [] are = absurd are
 same_count P (before ∷ befores) (after ∷ afters) are = ap suc (same_count P befores afters are.1)
-
-cons_keeps : {Y : Type 0} (o p : Option Y) (q r : Option (List Y)) (all : List Y) → ((y : Y) → o ≡ Some y → p ≡ Some y) → ((ys : List Y) → q ≡ Some ys → r ≡ Some ys)
-    → option_and_then (λ y. option_map (λ ys. y ∷ ys) q) o ≡ Some all → option_and_then (λ y. option_map (λ ys. y ∷ ys) r) p ≡ Some all
-cons_keeps None p q r all keep rest e = absurd (cc)
-cons_keeps (Some y) p None r all keep rest e = absurd (cc)
-cons_keeps (Some y) p (Some ys) r all keep rest e =
-    ap (option_and_then (λ y. option_map (λ ys. y ∷ ys) r)) (keep y refl) ∙ ap (option_map (λ ys. y ∷ ys)) (rest ys refl) ∙ e
-
-all_of_cons : {Y : Type 0} (o : Option Y) (os : List (Option Y)) → all_of (o ∷ os) ≡ option_and_then (λ y. option_map (λ ys. y ∷ ys) (all_of os)) o
-all_of_cons None os = refl
-all_of_cons (Some y) os = refl
-
-pub all_keep : {Y : Type 0} (f g : ℕ → Option Y) → ((x : ℕ) (y : Y) → f x ≡ Some y → g x ≡ Some y) → (xs : List ℕ) (ys : List Y) → all_of (map f xs) ≡ Some ys → all_of (map g xs) ≡ Some ys
-all_keep f g keep [] ys e = e
-all_keep f g keep (x ∷ xs) ys e =
-    all_of_cons (g x) (map g xs)
-    ∙ cons_keeps (f x) (g x) (all_of (map f xs)) (all_of (map g xs)) ys (keep x) (λ zs h. all_keep f g keep xs zs h) (sym (all_of_cons (f x) (map f xs)) ∙ e)
 
 module _ (befores afters : List Place) (fewer : ArePlaces IsFewerPlace befores afters) (sector : ℕ) where
   pub row_keeps : (position : ℕ) (sites : List Site) → row_without afters position sector ≡ Some sites → row_without befores position sector ≡ Some sites
@@ -138,28 +124,10 @@ module _ (before after : Volume) (fewer : IsFewer before after) (block : ℕ) wh
 
 -- ---- levels
 
-or_keeps : (a b c d : Bool) → (a ≡ true → b ≡ true) → (c ≡ true → d ≡ true) → (a || c) ≡ true → (b || d) ≡ true
-or_keeps true b c d first rest e = ap (λ x. x || d) (first refl)
-or_keeps false true c d first rest e = refl
-or_keeps false false c d first rest e = rest e
-
-and_keeps : (a b c d : Bool) → (a ≡ true → b ≡ true) → (c ≡ true → d ≡ true) → (a && c) ≡ true → (b && d) ≡ true
-and_keeps true b true d first rest e = ap (λ x. x && d) (first refl) ∙ rest refl
-and_keeps true b false d first rest e = absurd (cc)
-and_keeps false b c d first rest e = absurd (cc)
-
-true_false : (b : Bool) → b ≡ true → b ≡ false → ⊥
-true_false b a c = cc
-
 available_keeps : (before after : Place) → IsFewerPlace before after → is_available after ≡ true → is_available before ≡ true
 available_keeps before after fewer e =
     ⊎_elim (λ none. absurd (true_false (is_available after) e none))
     (λ same. ap (λ (b : Bool). b && is_some before.slot) (sym same.0) ∙ ap (λ (o : Option ℕ). after.synced && is_some o) (sym same.2) ∙ e) fewer
-
-one_away : (x y : Bool) → (y ≡ true → x ≡ true) → (if not x then 1 else 0) ≤ (if not y then 1 else 0)
-one_away true y keeps = omega arith
-one_away false true keeps = let never : false ≡ true = keeps refl in absurd (cc)
-one_away false false keeps = omega arith
 
 any_keeps : (befores afters : List Place) → ArePlaces IsFewerPlace befores afters → list_any is_available afters ≡ true → list_any is_available befores ≡ true
 any_keeps [] [] fewer e = e
@@ -175,9 +143,6 @@ all_keeps (before ∷ befores) [] fewer e = absurd fewer
 all_keeps (before ∷ befores) (after ∷ afters) fewer e =
     and_keeps (is_available after) (is_available before) (list_all is_available afters) (list_all is_available befores) (available_keeps before after fewer.0) (all_keeps befores afters fewer.1) e
 
-abbrev pub away : List Place → ℕ
-away places = count_by (λ place. not (is_available place)) places
-
 fewer_away : (befores afters : List Place) → ArePlaces IsFewerPlace befores afters → away befores ≤ away afters
 fewer_away [] [] fewer = omega arith
 fewer_away [] (after ∷ afters) fewer = absurd fewer
@@ -186,7 +151,7 @@ fewer_away (before ∷ befores) (after ∷ afters) fewer =
     let weight : Place → ℕ = λ place. if not (is_available place) then 1 else 0 in
     let old : away (before ∷ befores) ≡ weight before + away befores = sum_by-cons weight before befores in
     let new : away (after ∷ afters) ≡ weight after + away afters = sum_by-cons weight after afters in
-    let one : weight before ≤ weight after = one_away (is_available before) (is_available after) (available_keeps before after fewer.0) in
+    let one : weight before ≤ weight after = one_less_where_kept (is_available before) (is_available after) (available_keeps before after fewer.0) in
     omega (arith, old, new, one, fewer_away befores afters fewer.1)
 
 -- places that stay lack as many

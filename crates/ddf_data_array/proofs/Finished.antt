@@ -5,6 +5,9 @@ use Rattle.std.specs.Prelude.{find, is_some, option_map, option_and_then, option
 use Rattle.std.specs.List.{range_with_len, list_any}
 use Rattle.std.proofs.lemmas.Bool.{cases_eq, cases_lt, eq-eqb, ne_eqb}
 use Rattle.std.proofs.lemmas.Option.{slice_get_within}
+use Rattle.std.proofs.lemmas.Map.Keys.{any_passes_from_place}
+use Rattle.ddf_lemmas.proofs.Lists.{at_first, map_alike, slice_get-range}
+use Rattle.ddf_lemmas.proofs.Options.{none_some, some_from_is_some}
 use Rattle.ddf_bay.specs.Sectors.{Image}
 use Rattle.ddf_parity.specs.Xor.{xor_all, zeros}
 use Rattle.ddf_primary.specs.Placement.{Placement}
@@ -27,20 +30,18 @@ use Rattle.ddf_array.specs.Redundant.{IsRedundant, whole_row}
 use Rattle.ddf_array.specs.Rows.{holds, block_at, cell_value, data_positions, row_sum, sources_without_block, value_without_block}
 use Rattle.ddf_array.specs.Sound.{AreSectors, HasParity, has_block}
 use Rattle.ddf_array.proofs.Enough.{has_source}
+use Rattle.ddf_array.proofs.LossLevels.{away}
+use Rattle.ddf_array.proofs.Losses.{all_keep}
 use Rattle.ddf_cells.specs.CellSources.{wanted}
 use Rattle.ddf_cells.proofs.BlockOf.{cell_in}
-use Rattle.ddf_cells.proofs.Lists.{any_passes}
 use Rattle.ddf_rebuild.specs.Target.{IsOut}
 use Rattle.ddf_data_array.specs.Changing.{changed_item, place_in_sync, part_in_sync, in_sync}
-use Rattle.ddf_data_array.proofs.Ranges.{map_in}
 use Rattle.ddf_data_array.proofs.From.{Gives, IsFrom, HasCell, made_of, source_from, source_to}
-use Rattle.ddf_data_array.proofs.Fewer.{all_keep, away}
-use Rattle.ddf_data_array.proofs.Lessened.{first_item, first_of, found_below}
-use Rattle.ddf_data_array.proofs.Consistent.{some_item}
-use Rattle.ddf_data_array.proofs.Totals.{data_at, is_data, range_item, with_sum}
+use Rattle.ddf_data_array.proofs.Lessened.{first_item, found_below}
+use Rattle.ddf_data_array.proofs.Totals.{data_at, is_data, with_sum}
 use Rattle.ddf_data_array.proofs.Sitting.{block_at_is, cell_deep}
 use Rattle.ddf_data_array.proofs.Items.{changed_at, changed_length, few_away, is_there, item_there, lies_at, row_away, site_cases, site_stays, unchanged_at}
-use Rattle.ddf_data_array.proofs.InSync.{away_less, block_value, count_is, holds_now, not_some, par_below, parity_right, part_cases, row_gives, row_is_there, spots_same, whole_zero}
+use Rattle.ddf_data_array.proofs.InSync.{away_less, block_value, count_is, holds_now, par_below, parity_right, part_cases, row_gives, row_is_there, spots_same, whole_zero}
 
 abbrev in_cells : (position sector block : ℕ) → Placement → Bool
 in_cells position sector block shape = list_any (λ (cell : ℕ × ℕ). cell.0 == position && cell.1 == sector) (element_cells shape block)
@@ -117,7 +118,7 @@ module _ (v : Volume) (known : IsVolume v) (image : Image) (are : AreSectors ima
   parity_sum sector deep par par_is block apart one at =
       ⊎_elim
       (λ few.
-      let there = some_item (row_without target.part.places p sector) (row_is_there target.part.places p target.place target.is_target.is_place target.is_target.is_out (omega (arith, few)) sector) in
+      let there = some_from_is_some (row_without target.part.places p sector) (row_is_there target.part.places p target.place target.is_target.is_place target.is_target.is_out (omega (arith, few)) sector) in
       parity_right v known image are is within e p target sector deep par par_is there.0 there.1 apart one at)
       (λ many. has e sector par target.part one target.is_target.is_part (omega (arith, many)) none par_is deep at block)
       (cases_lt (away target.part.places) 2)
@@ -185,7 +186,7 @@ module _ (v : Volume) (known : IsVolume v) (image : Image) (are : AreSectors ima
       let apart : from.cell.0 ≢ par.0 = λ same. no_parity block (row sites) from here new_is (par.1 ∙ ap Some (sym same)) in
       let at = data_at members par.0 from.cell.0 below apart target.part.shape.layout (from.cell.1 / target.part.shape.strip) par.1 in
       let blocks : has_block v e target.part from.cell.1 ≡ true =
-      any_passes (λ position. is_some (block_at v e position from.cell.1)) (data_positions target.part.shape from.cell.1) at.0 from.cell.0 at.1 (ap is_some (own_block block (row sites) from here new_is)) in
+      any_passes_from_place (λ position. is_some (block_at v e position from.cell.1)) (data_positions target.part.shape from.cell.1) at.0 from.cell.0 at.1 (ap is_some (own_block block (row sites) from here new_is)) in
       let deep_here = deep block (row sites) from here new_is in
       let gives = row_gives v known image are is within e p target from.cell.1 deep_here par.0 par.1 (λ one. rebuilt from.cell.1 one deep_here)
       (parity_sum from.cell.1 deep_here par.0 par.1 blocks) from.cell.0 below sites
@@ -219,7 +220,7 @@ module _ (v : Volume) (known : IsVolume v) (image : Image) (are : AreSectors ima
 
   value_of : (block k : ℕ) (source : Source) → slice_get (every_source now block) k ≡ Some source → value now image block ≡ value v image block
   value_of block k source at =
-      let first = first_of (every_source now block) k source at in
+      let first = at_first (every_source now block) k source at in
       ap (option_map (given image)) first.1 ∙ sym (claim block first.0 (source_from now block 0 first.0 first.1))
 
   value_now : (block : ℕ) → block < capacity v → value now image block ≡ value v image block
@@ -238,7 +239,7 @@ module _ (v : Volume) (known : IsVolume v) (image : Image) (are : AreSectors ima
       (λ apart one at.
       let few : away target.part.places ≤ 1 =
       few_by sector sites whole in
-      let there = some_item (row_without target.part.places p sector) (row_is_there target.part.places p target.place target.is_target.is_place target.is_target.is_out few sector) in
+      let there = some_from_is_some (row_without target.part.places p sector) (row_is_there target.part.places p target.place target.is_target.is_place target.is_target.is_out few sector) in
       parity_right v known image are is within e p target sector deep_here par.0 par.1 there.0 there.1 apart one at)
       sites whole
     where
@@ -247,7 +248,7 @@ module _ (v : Volume) (known : IsVolume v) (image : Image) (are : AreSectors ima
           few_away target.part.places p (λ other place at apart.
           let within_new : other < length new.places = subst (λ (n : ℕ). other < n) (sym (changed_length place_in_sync p target.part.places)) (slice_get_within target.part.places other place at) in
           let zeroth : 0 + other ≡ other = omega arith in
-          let there = item_there (λ position. site_at new.places position sector) (range_with_len 0 (length new.places)) sites whole other other (range_item 0 (length new.places) other within_new ∙ ap Some zeroth) in
+          let there = item_there (λ position. site_at new.places position sector) (range_with_len 0 (length new.places)) sites whole other other (slice_get-range 0 (length new.places) other within_new ∙ ap Some zeroth) in
           ⊎_elim (λ same. absurd (apart same.0))
           (λ stays. is_there place sector there.0 (ap (λ (o : Option Place). option_and_then (λ place. site place sector) o) (sym at) ∙ stays.1))
           (site_cases target.part.places p target.place target.is_target.is_place target.is_target.is_out sector other there.0 there.1))
@@ -327,7 +328,7 @@ module _ (v : Volume) (known : IsVolume v) (image : Image) (are : AreSectors ima
       where
         old_by : (o : Option Site) → site_at target.part.places position sector ≡ o
             → value_without_block image (map copy (option_to_list o) ++ (if keeps_parity target.part.shape.layout then map row (option_to_list (row_without target.part.places position sector)) else [])) ≡ zeros
-        old_by (Some one) there = absurd (not_some (site_at new.places position sector) one at (site_stays target.part.places p target.place target.is_target.is_place target.is_target.is_out sector position one there))
+        old_by (Some one) there = absurd (none_some (site_at new.places position sector) one at (site_stays target.part.places p target.place target.is_target.is_place target.is_target.is_out sector position one there))
         old_by None there =
             no_row target.part.places position old_lacks (subst (λ (n : ℕ). position < n) (sym (count_is v known image are is within e p target sector deep_here)) below)
             (row_without target.part.places position sector) refl (keeps_parity target.part.shape.layout)
@@ -345,7 +346,7 @@ module _ (v : Volume) (known : IsVolume v) (image : Image) (are : AreSectors ima
 
     row_own : row_sum now image e new sector ≡ row_sum v image e target.part sector
     row_own =
-        ap xor_all (map_in (cell_value now image e new sector) (cell_value v image e target.part sector) (data_positions target.part.shape sector) (λ k position at.
+        ap xor_all (map_alike (cell_value now image e new sector) (cell_value v image e target.part sector) (data_positions target.part.shape sector) (λ k position at.
         let bounds = is_data target.part.shape.members par (parity_within k position at) target.part.shape.layout (sector / target.part.shape.strip) k position par_is at in
         cell_own position bounds.0 bounds.1))
       where

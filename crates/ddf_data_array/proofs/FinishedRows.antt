@@ -4,6 +4,8 @@ use Rattle.std.proofs.Math.Path.{fun_ext}
 use Rattle.std.specs.Prelude.{option_map, option_and_then, unwrap_or, if◌then◌else◌}
 use Rattle.std.proofs.lemmas.Bool.{cases_lt}
 use Rattle.std.proofs.lemmas.Nat.{div-add-mod', mod_below}
+use Rattle.ddf_lemmas.proofs.Options.{some_is}
+use Rattle.ddf_lemmas.proofs.Tests.{true_false}
 use Rattle.ddf_bay.specs.Sectors.{Image}
 use Rattle.ddf_parity.specs.Xor.{xor_all, zeros}
 use Rattle.ddf_primary.specs.Cells.{depth_of, height_of}
@@ -32,12 +34,6 @@ use Rattle.ddf_data_array.proofs.InSync.{part_cases}
 use Rattle.ddf_data_array.proofs.Lessened.{no_source, wanted_cell}
 use Rattle.ddf_data_array.proofs.Finished.{block_same, cell_other, claim, parity_now, redundant_now, value_in}
 use Rattle.ddf_data_array.proofs.RowsKept.{has_rebuilt, no_rows}
-
-true_false : (b : Bool) → b ≡ true → b ≡ false → ⊥
-true_false b x y = cc
-
-some_is : {X : Type 0} {a b : X} → Some a ≡ Some b → a ≡ b
-some_is e = cc
 
 module _ (v : Volume) (known : IsVolume v) (image : Image) (are : AreSectors image) (is : IsRedundant v image) (within : is_within v ≡ true) (e p : ℕ) (target : IsOut v e p)
     (is_absent : ℕ → ℕ → Bool) (has : HasParity is_absent v image) (none : (other : ℕ) → is_absent e other ≡ false)

@@ -1,6 +1,7 @@
 -- The cells that the sources of a block are made of.
 use Rattle.std.proofs.Common.{◌≡◌, ◌∙◌, ⊎_elim, ℕ, Bool, true, false, not, List, [], Option, Some, None, refl, ap, subst, map, slice_get}
 use Rattle.std.specs.Prelude.{filter_map, if◌then◌else◌}
+use Rattle.ddf_lemmas.proofs.Lists.{first_get, get_filter_map, in_either, in_map, in_second, mapped_at}
 use Rattle.ddf_secondary.specs.declared.spot.Spot.{Spot}
 use Rattle.ddf_array.specs.declared.part.Part.{Part}
 use Rattle.ddf_array.specs.declared.site.Site.{Site}
@@ -9,10 +10,7 @@ use Rattle.ddf_array.specs.Levels.{keeps_parity}
 use Rattle.ddf_array.specs.Volume.{Volume}
 use Rattle.ddf_array.specs.Cells.{element_cells, block_spots}
 use Rattle.ddf_array.specs.Sources.{Source, copy, row, row_without, element_copies, element_rows, at_spot, copies, rows, every_source, sources}
-use Rattle.ddf_array.proofs.Losses.{at_front, mapped_at}
-use Rattle.ddf_array.proofs.Consistent.{to_filter, to_flat, at_part}
-use Rattle.ddf_cells.proofs.Lists.{in_both, in_filter, in_flat, in_map}
-use Rattle.ddf_data_array.proofs.Ranges.{to_back}
+use Rattle.ddf_array.proofs.Consistent.{to_flat, at_part, in_filter, in_flat}
 
 -- the source is this cell, or its row without it
 abbrev pub Gives : Part → ℕ × ℕ → Source → Type 0
@@ -88,18 +86,18 @@ module _ (v : Volume) (block : ℕ) where
       ⊎_elim
       (λ front. let from = in_map copy (copies v block) front.0 source front.1 in moved (copy from.0) source from.2 (copy_from front.0 from.0 from.1))
       (λ back. let from = in_map row (rows v block) back.0 source back.1 in moved (row from.0) source from.2 (row_from back.0 from.0 from.1))
-      (in_both (map copy (copies v block)) (map row (rows v block)) k source at)
+      (in_either (map copy (copies v block)) (map row (rows v block)) k source at)
 
   -- and what a cell gives is a source
   pub copy_to : (one : Site) → IsFrom v block (copy one) → (k : ℕ) × (slice_get (copies v block) k ≡ Some one)
   copy_to one from =
-      let inner = to_filter (λ (c : ℕ × ℕ). site_at from.part.places c.0 c.1) (element_cells from.part.shape from.spot.block) from.i from.cell one from.is_cell from.gives in
+      let inner = get_filter_map (λ (c : ℕ × ℕ). site_at from.part.places c.0 c.1) (element_cells from.part.shape from.spot.block) from.i from.cell one from.is_cell from.gives in
       to_flat (at_spot v.parts element_copies) (block_spots v block) from.j inner.0 from.spot one from.is_spot
       (ap (λ (l : List Site). slice_get l inner.0) (at_part v.parts element_copies from.spot from.part from.is_part) ∙ inner.1)
 
   pub row_to : (sites : List Site) → IsFrom v block (row sites) → (k : ℕ) × (slice_get (rows v block) k ≡ Some sites)
   row_to sites from =
-      let inner = to_filter (λ (c : ℕ × ℕ). row_without from.part.places c.0 c.1) (element_cells from.part.shape from.spot.block) from.i from.cell sites from.is_cell from.gives.1 in
+      let inner = get_filter_map (λ (c : ℕ × ℕ). row_without from.part.places c.0 c.1) (element_cells from.part.shape from.spot.block) from.i from.cell sites from.is_cell from.gives.1 in
       let own = ap (λ b. slice_get (if b then filter_map (λ (c : ℕ × ℕ). row_without from.part.places c.0 c.1) (element_cells from.part.shape from.spot.block) else []) inner.0) from.gives.0 ∙ inner.1 in
       to_flat (at_spot v.parts element_rows) (block_spots v block) from.j inner.0 from.spot sites from.is_spot
       (ap (λ (l : List (List Site)). slice_get l inner.0) (at_part v.parts element_rows from.spot from.part from.is_part) ∙ own)
@@ -107,10 +105,10 @@ module _ (v : Volume) (block : ℕ) where
   pub source_to : (source : Source) → IsFrom v block source → (k : ℕ) × (slice_get (every_source v block) k ≡ Some source)
   source_to (copy one) from =
       let there = copy_to one from in
-      (there.0, at_front (map copy (copies v block)) (map row (rows v block)) there.0 (copy one) (mapped_at copy (copies v block) there.0 one there.1))
+      (there.0, first_get (map copy (copies v block)) (map row (rows v block)) there.0 (copy one) (mapped_at copy (copies v block) there.0 one there.1))
   source_to (row sites) from =
       let there = row_to sites from in
-      to_back (map copy (copies v block)) (map row (rows v block)) there.0 (row sites) (mapped_at row (rows v block) there.0 sites there.1)
+      in_second (map copy (copies v block)) (map row (rows v block)) there.0 (row sites) (mapped_at row (rows v block) there.0 sites there.1)
 
 -- each source that a read may use is a source
 pub source_of : (v : Volume) (block k : ℕ) (source : Source) → slice_get (sources v block) k ≡ Some source → IsFrom v block source

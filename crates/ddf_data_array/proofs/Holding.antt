@@ -2,8 +2,10 @@
 use Rattle.std.proofs.Common.{◌≡◌, ◌∙◌, ◌⊎◌, inl, inr, ⊎_elim, ℕ, suc, ◌+◌, ◌/◌, ◌<◌, ◌≤◌, Bool, true, false, not, List, [], ◌∷◌, Option, Some, None, get_or, refl, sym, ap, subst, arith, map, length, slice_get}
 use Rattle.std.specs.Prelude.{is_some, option_and_then, option_map, if◌then◌else◌}
 use Rattle.std.specs.List.{range_with_len}
-use Rattle.std.proofs.lemmas.Bool.{cases_lt, eq-eqb, false≢true}
+use Rattle.std.proofs.lemmas.Bool.{cases_lt, eq-eqb, false≢true, not-false}
 use Rattle.std.proofs.lemmas.Option.{none-some, slice_get-get_or}
+use Rattle.ddf_lemmas.proofs.Options.{some_from_is_some}
+use Rattle.ddf_lemmas.proofs.Tests.{not_back}
 use Rattle.ddf_bay.specs.Sectors.{Image}
 use Rattle.ddf_primary.specs.Cells.{depth_of, parity_member}
 use Rattle.ddf_array.specs.declared.part.Part.{Part}
@@ -19,12 +21,11 @@ use Rattle.ddf_array.specs.Volume.{Volume, IsVolume}
 use Rattle.ddf_array.specs.Within.{is_within}
 use Rattle.ddf_array.proofs.Enough.{only_one, row_there, site_there}
 use Rattle.ddf_array.proofs.RowParity.{cell_value_is, parity_is_sum}
+use Rattle.ddf_array.proofs.LossLevels.{away}
 use Rattle.ddf_cells.specs.CellSources.{is_parity, wanted}
 use Rattle.ddf_cells.proofs.Lists.{in_range}
 use Rattle.ddf_rebuild.specs.Filling.{HoldsWanted}
 use Rattle.ddf_data_array.specs.Moved.{HoldsTheSame, IsIdleParity}
-use Rattle.ddf_data_array.proofs.Consistent.{some_item}
-use Rattle.ddf_data_array.proofs.Fewer.{away}
 use Rattle.ddf_data_array.proofs.Idle.{parity_there}
 use Rattle.ddf_data_array.proofs.RowRight.{parity_right}
 
@@ -49,14 +50,6 @@ missing_in : (f : ℕ → Option Site) (xs : List ℕ) → all_of (map f xs) ≡
 missing_in f [] e = absurd (none-some [] (sym e))
 missing_in f (x ∷ xs) e = missing_by f x xs (f x) refl e (missing_in f xs)
 
-not_by : (b : Bool) → (b ≡ true → ⊥) → not b ≡ true
-not_by true never = absurd (never refl)
-not_by false never = refl
-
-back_by : (b : Bool) → not b ≡ false → b ≡ true
-back_by true e = refl
-back_by false e = absurd (false≢true (sym e))
-
 some_none : (o : Option Site) → is_some o ≡ true → o ≡ None → ⊥
 some_none o a b = false≢true (ap is_some (sym b) ∙ a)
 
@@ -71,13 +64,13 @@ module _ (places : List Place) (sector : ℕ) (few : away places ≤ 1) (lost : 
   own_at = slice_get-get_or places lost nowhere below
 
   own_lacks : not (is_available own) ≡ true
-  own_lacks = not_by (is_available own) (λ available. some_none (site_at places lost sector) (site_there places lost sector own own_at available) none_at)
+  own_lacks = not_back (is_available own) (λ available. some_none (site_at places lost sector) (site_there places lost sector own own_at available) none_at)
 
   -- its row is there without it
   rest_there : is_some (row_without places lost sector) ≡ true
   rest_there =
       row_there places lost sector (λ other place at apart.
-      back_by (is_available place) (only_one (λ (place : Place). not (is_available place)) places few lost other own place own_at at own_lacks (λ same. false≢true (sym apart ∙ eq-eqb other lost same))))
+      not-false (is_available place) (only_one (λ (place : Place). not (is_available place)) places few lost other own place own_at at own_lacks (λ same. false≢true (sym apart ∙ eq-eqb other lost same))))
 
 -- ---- what an available position holds
 
@@ -101,7 +94,7 @@ module _ (is_absent : ℕ → ℕ → Bool) (v : Volume) (known : IsVolume v) (i
           let range = in_range 0 (length part.places) lost.at lost.item lost.is_at in
           let below : lost.item < length part.places = omega (arith, range.1) in
           let count = (known.are_parts e part part_at).has_places in
-          let rest = some_item (row_without part.places lost.item sector) (rest_there part.places sector few lost.item below lost.is_none) in
+          let rest = some_from_is_some (row_without part.places lost.item sector) (rest_there part.places sector few lost.item below lost.is_none) in
           parity_right v known image sound.are_sectors is e part part_at lost.item sector lost.is_none p on (subst (λ (n : ℕ). lost.item < n) count below) rest.0 rest.1 own own_at
 
       by_block : 2 ≤ away part.places → (b : Bool) → has_block v e part sector ≡ b → (bytes_at image own ≡ row_sum v image e part sector) ⊎ IsIdleParity v e part p sector

@@ -1,9 +1,10 @@
 -- Rows of an element of which two or more positions aren't available, and what a position holds of a row: parity or a data cell.
-use Rattle.std.proofs.Common.{◌≡◌, ◌≢◌, ◌∙◌, ⊎_elim, ℕ, zero, suc, ◌+◌, ◌-◌, ◌/◌, ◌<◌, ◌≤◌, Bool, true, false, not, List, [], ◌∷◌, ◌++◌, Option, Some, None, refl, sym, ap, arith, length, slice_get}
+use Rattle.std.proofs.Common.{◌≡◌, ◌≢◌, ◌∙◌, ⊎_elim, ℕ, zero, suc, ◌+◌, ◌-◌, ◌/◌, ◌≤◌, Bool, true, false, not, List, [], ◌∷◌, ◌++◌, Option, Some, None, refl, sym, ap, arith, length, slice_get}
 use Rattle.std.specs.Prelude.{filter, option_and_then, ◌==◌, if◌then◌else◌}
 use Rattle.std.specs.List.{range_with_len}
 use Rattle.std.proofs.lemmas.Bool.{eqb-true, ne_eqb}
 use Rattle.std.proofs.lemmas.Option.{slice_get_within}
+use Rattle.ddf_lemmas.proofs.Lists.{in_either, range_at}
 use Rattle.ddf_primary.specs.declared.parity.ParityLayout.{ParityLayout}
 use Rattle.ddf_primary.specs.declared.parity.ParityLayout.TheVariants.{Raid4First, Raid4Last, Raid5ZeroRestart, Raid5LastRestart, Raid5LastContinuation}
 use Rattle.ddf_primary.specs.Cells.{after_parity, before_parity, data_around, parity_member}
@@ -15,16 +16,12 @@ use Rattle.ddf_array.specs.Places.{is_available, site, site_at}
 use Rattle.ddf_array.specs.Redundant.{whole_row}
 use Rattle.ddf_array.specs.Rows.{data_positions}
 use Rattle.ddf_array.specs.Sources.{other_positions, row_without}
+use Rattle.ddf_array.proofs.LossLevels.{away}
 use Rattle.ddf_cells.specs.CellSources.{is_parity}
-use Rattle.ddf_cells.proofs.Lists.{in_both, in_range}
-use Rattle.ddf_data_array.proofs.Fewer.{away}
+use Rattle.ddf_cells.proofs.Lists.{in_range}
 use Rattle.ddf_data_array.proofs.Items.{few_away, is_there, item_there, none_where}
-use Rattle.ddf_data_array.proofs.Totals.{range_item}
 
 -- ---- rows that aren't there
-
-range_at : (n k : ℕ) → k < n → slice_get (range_with_len 0 n) k ≡ Some k
-range_at n k below = range_item 0 n k below ∙ ap Some (let e : 0 + k ≡ k = omega arith in e)
 
 -- an item other than one is among the others
 others_item : (q : ℕ) (xs : List ℕ) (k x : ℕ) → slice_get xs k ≡ Some x → x ≢ q → (j : ℕ) × (slice_get (filter (λ other. not (other == q)) xs) j ≡ Some x)
@@ -86,14 +83,14 @@ module _ (members parity k q : ℕ) where
   in_back at same = let within = in_range (parity + 1) (members - 1 - parity) at.0 q at.1 in omega (arith, within.0, same)
 
   front_first : slice_get (before_parity parity ++ after_parity members parity) k ≡ Some q → q ≢ parity
-  front_first at = ⊎_elim in_front in_back (in_both (before_parity parity) (after_parity members parity) k q at)
+  front_first at = ⊎_elim in_front in_back (in_either (before_parity parity) (after_parity members parity) k q at)
 
   around_apart : (kind : ParityLayout) → slice_get (data_around kind members parity) k ≡ Some q → q ≢ parity
   around_apart Raid4First at = front_first at
   around_apart Raid4Last at = front_first at
   around_apart Raid5ZeroRestart at = front_first at
   around_apart Raid5LastRestart at = front_first at
-  around_apart Raid5LastContinuation at = ⊎_elim in_back in_front (in_both (after_parity members parity) (before_parity parity) k q at)
+  around_apart Raid5LastContinuation at = ⊎_elim in_back in_front (in_either (after_parity members parity) (before_parity parity) k q at)
 
 -- a data cell of a row isn't its parity
 pub data_apart : (part : Part) (sector k q : ℕ) → slice_get (data_positions part.shape sector) k ≡ Some q → is_parity part q sector ≡ false

@@ -2,9 +2,11 @@
 use Rattle.std.proofs.Common.{◌≡◌, ◌≢◌, ◌∙◌, ◌⊎◌, inl, inr, ⊎_elim, ℕ, zero, suc, ◌+◌, ◌/◌, ◌<◌, ◌≤◌, Bool, true, false, not, List, [], ◌∷◌, Option, Some, None, refl, sym, ap, subst, arith, map, length, slice_get, ◌&&◌}
 use Rattle.std.specs.Prelude.{is_some, unwrap_or, ◌==◌, if◌then◌else◌}
 use Rattle.std.specs.List.{range_with_len}
-use Rattle.std.proofs.lemmas.Bool.{eq-eqb, eqb-true}
+use Rattle.std.proofs.lemmas.Bool.{eq-eqb, eqb-true, not-false}
 use Rattle.std.proofs.lemmas.List.Sums.{sum_by-cons}
 use Rattle.std.proofs.lemmas.Option.{slice_get_within}
+use Rattle.ddf_lemmas.proofs.Options.{some_from_is_some}
+use Rattle.ddf_lemmas.proofs.Tests.{true_false}
 use Rattle.ddf_bay.specs.Sectors.{Image}
 use Rattle.ddf_parity.specs.Xor.{xor_all, zeros}
 use Rattle.ddf_primary.specs.Placement.{Placement}
@@ -27,23 +29,17 @@ use Rattle.ddf_array.specs.Sound.{AreSectors}
 use Rattle.ddf_array.proofs.Enough.{only_one, row_there}
 use Rattle.ddf_array.proofs.Losses.{some_value}
 use Rattle.ddf_array.proofs.RowParity.{cell_value_is}
+use Rattle.ddf_array.proofs.LossLevels.{away}
 use Rattle.ddf_cells.specs.CellSources.{wanted}
 use Rattle.ddf_cells.proofs.Redundance.{held}
 use Rattle.ddf_rebuild.specs.Target.{IsOut}
 use Rattle.ddf_data_array.specs.Changing.{changed_item, place_in_sync, part_in_sync, in_sync}
 use Rattle.ddf_data_array.proofs.From.{HasCell}
-use Rattle.ddf_data_array.proofs.Fewer.{away}
-use Rattle.ddf_data_array.proofs.Consistent.{cell_below, some_item}
+use Rattle.ddf_data_array.proofs.Consistent.{cell_below}
 use Rattle.ddf_data_array.proofs.Totals.{from_others, total, with_sum}
 use Rattle.ddf_data_array.proofs.Sitting.{block_at_is}
 use Rattle.ddf_data_array.proofs.Items.{changed_cases, changed_length, lies_at, none_where, own_none, site_cases}
 use Rattle.ddf_data_array.proofs.RowRight.{long_cell, parity_right as right_without}
-
-pub true_false : (b : Bool) → b ≡ true → b ≡ false → ⊥
-true_false b a c = cc
-
-pub not_some : {X : Type 0} (o : Option X) (x : X) → o ≡ None → o ≡ Some x → ⊥
-not_some o x a b = cc
 
 -- ---- how many aren't available
 
@@ -74,15 +70,11 @@ out_by : (synced : Bool) (slot : Option ℕ) → synced ≡ false → not (synce
 out_by true slot e = absurd (cc)
 out_by false slot e = refl
 
-not_back : (b : Bool) → not b ≡ false → b ≡ true
-not_back true e = refl
-not_back false e = absurd (cc)
-
 -- where one position alone lacks, the row is there without it
 pub row_is_there : (places : List Place) (p : ℕ) (own : Place) → slice_get places p ≡ Some own → own.synced ≡ false → away places ≤ 1 → (sector : ℕ) → is_some (row_without places p sector) ≡ true
 row_is_there places p own own_at out few sector =
     row_there places p sector (λ other place at apart.
-    not_back (is_available place) (only_one (λ (place : Place). not (is_available place)) places few p other own place own_at at (out_by own.synced own.slot out)
+    not-false (is_available place) (only_one (λ (place : Place). not (is_available place)) places few p other own place own_at at (out_by own.synced own.slot out)
     (λ same. true_false (other == p) (eq-eqb other p same) apart)))
 
 -- ---- the array
@@ -116,7 +108,7 @@ module _ (v : Volume) (known : IsVolume v) (image : Image) (are : AreSectors ima
   -- a block's own cell
   pub block_value : (block : ℕ) (has : HasCell v block) → value v image block ≡ Some (cell_value v image has.spot.element has.part has.cell.1 has.cell.0)
   block_value block has =
-      let some = some_item (value v image block) (some_value v image block known within (cell_below v block has)) in
+      let some = some_from_is_some (value v image block) (some_value v image block known within (cell_below v block has)) in
       some.1
       ∙ ap (λ (o : Option (List ℕ)). Some (unwrap_or o zeros)) (sym some.1)
       ∙ ap (λ (o : Option ℕ). Some (elim o [ None ↦ value_without_block image (sources_without_block has.part has.cell.0 has.cell.1) | Some block ↦ unwrap_or (value v image block) zeros ]))

@@ -7,17 +7,15 @@ use Rattle.ddf_array.specs.declared.place.Place.{Place}
 use Rattle.ddf_array.specs.declared.site.Site.{Site}
 use Rattle.ddf_array.specs.Places.{is_available, site, site_at, site_on}
 use Rattle.ddf_array.specs.Sources.{all_of, other_positions, row_without}
+use Rattle.ddf_array.proofs.LossLevels.{away}
+use Rattle.ddf_array.proofs.RowParity.{rest_of}
+use Rattle.ddf_array.proofs.RowSums.{others_are}
 use Rattle.ddf_data_array.specs.Changing.{changed_item, place_in_sync}
-use Rattle.ddf_data_array.proofs.Fewer.{away}
-use Rattle.ddf_data_array.proofs.Totals.{others_are, other_item}
+use Rattle.ddf_data_array.proofs.Totals.{other_item}
 
 -- where a sector of a position lies whose disk is there, in sync or not
 abbrev pub lies_at : List Place → ℕ → ℕ → Option Site
 lies_at places position sector = option_and_then (λ (place : Place). option_map (λ slot. site_on slot (place.start + sector)) place.slot) (slice_get places position)
-
-rest_of : (x : Site) (o : Option (List Site)) (all : List Site) → option_map (λ l. x ∷ l) o ≡ Some all → (rest : List Site) × (o ≡ Some rest) × (x ∷ rest ≡ all)
-rest_of x None all e = absurd (cc)
-rest_of x (Some rest) all e = (rest, refl, cc)
 
 -- ---- one item changed
 
@@ -59,9 +57,6 @@ changed_length f (suc k) (x ∷ xs) = ap suc (changed_length f k xs)
 pub none_where : {X : Type 0} (o : Option X) → ((x : X) → o ≡ Some x → ⊥) → o ≡ None
 none_where None never = refl
 none_where (Some x) never = absurd (never x refl)
-
-some_not_none : {X : Type 0} (o : Option X) (x : X) → o ≡ None → o ≡ Some x → ⊥
-some_not_none o x a b = cc
 
 available_by : (synced : Bool) (slot : Option ℕ) (lba : ℕ) (one : Site) → (if synced then option_map (λ s. site_on s lba) slot else None) ≡ Some one → (synced && is_some slot) ≡ true
 available_by true None lba one e = absurd (cc)

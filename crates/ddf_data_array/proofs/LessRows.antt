@@ -1,7 +1,9 @@
 -- Rows that are counted as rebuilt hold what they should where places of an array aren't available any more.
-use Rattle.std.proofs.Common.{◌≡◌, ◌∙◌, ◌⊎◌, inl, inr, ⊎_elim, ℕ, ◌+◌, ◌≤◌, Bool, true, false, not, List, Option, Some, None, refl, sym, ap, subst, arith, slice_get, ◌&&◌}
-use Rattle.std.specs.Prelude.{is_some}
-use Rattle.std.proofs.lemmas.Bool.{cases_eq, cases_lt, le-leb, leb-true}
+use Rattle.std.proofs.Common.{◌≡◌, ◌∙◌, ◌⊎◌, inl, inr, ⊎_elim, ℕ, ◌+◌, ◌≤◌, Bool, true, false, not, List, Some, refl, sym, ap, subst, arith, slice_get}
+use Rattle.std.proofs.lemmas.Bool.{cases_eq, cases_lt, le-leb, leb-true, not-false}
+use Rattle.std.proofs.lemmas.Option.{same_Some}
+use Rattle.ddf_lemmas.proofs.Options.{no_first_of_and_some, none_some}
+use Rattle.ddf_lemmas.proofs.Tests.{true_false}
 use Rattle.ddf_bay.specs.Sectors.{Image}
 use Rattle.ddf_config.specs.Within.{has_enough}
 use Rattle.ddf_primary.specs.Placement.{Placement}
@@ -17,37 +19,17 @@ use Rattle.ddf_array.specs.Volume.{Volume, IsVolume}
 use Rattle.ddf_array.specs.Within.{is_within}
 use Rattle.ddf_array.specs.Redundant.{IsRedundant}
 use Rattle.ddf_array.proofs.Enough.{only_one}
+use Rattle.ddf_array.proofs.LossLevels.{away}
 use Rattle.ddf_cells.specs.CellSources.{wanted}
 use Rattle.ddf_rebuild.specs.Target.{IsInRows, IsTarget}
 use Rattle.ddf_data_array.specs.Allowed.{Allowed}
 use Rattle.ddf_data_array.specs.Fewer.{IsSamePlace, IsAlikePlace, IsFewerPlace, ArePlaces, IsFewer, LeavesParity, LeavesRows}
 use Rattle.ddf_data_array.specs.Kept.{IsKeptData}
 use Rattle.ddf_data_array.specs.Rows.{AreRowsKept, DoRowsCount, IsFirstOut, NoneAbsent}
-use Rattle.ddf_data_array.proofs.Fewer.{HasPart, all_places, at_places, away, part_before, part_keeps, was_within}
+use Rattle.ddf_data_array.proofs.Fewer.{HasPart, all_places, at_places, part_before, part_keeps, was_within}
 use Rattle.ddf_data_array.proofs.Items.{none_where, own_none}
 use Rattle.ddf_data_array.proofs.Lessened.{kept_but_rows, unmarked_before, wanted_alike, wanted_out}
 use Rattle.ddf_data_array.proofs.RowsKept.{has_rebuilt, no_rows}
-
-true_false : (b : Bool) → b ≡ true → b ≡ false → ⊥
-true_false b x y = cc
-
-not_both : {X : Type 0} (o : Option X) (x : X) → o ≡ None → o ≡ Some x → ⊥
-not_both o x a b = cc
-
-not_back : (b : Bool) → not b ≡ false → b ≡ true
-not_back true e = refl
-not_back false e = absurd (cc)
-
-some_is : {X : Type 0} (x y : X) → Some x ≡ Some y → x ≡ y
-some_is x y e = cc
-
-out_away : (synced : Bool) (slot : Option ℕ) → synced ≡ false → (synced && is_some slot) ≡ false
-out_away true slot e = absurd (cc)
-out_away false slot e = refl
-
-synced_there : (synced : Bool) (slot : Option ℕ) → (synced && is_some slot) ≡ true → synced ≡ true
-synced_there true slot e = refl
-synced_there false slot e = absurd (cc)
 
 -- an element with parity is within its level where at most one place isn't available
 pub few_away : (layout : Layout) (places : List Place) → keeps_parity layout ≡ true → has_enough (need_by layout) is_available places ≡ true → away places ≤ 1
@@ -74,7 +56,7 @@ module _ (absent_before absent_after : ℕ → ℕ → Bool) (before after : Vol
       let own = at_places IsFewerPlace there.before.places part.places there.fewer position place target.is_place in
       ⊎_elim (λ none. inl none)
       (⊎_elim (λ synced. absurd (true_false place.synced synced target.is_out))
-      (⊎_elim (λ gone. absurd (not_both place.slot slot gone target.is_there)) (λ same. inr (own.0, record { is_was = own.1; same = same.0; same_row = same.1 }))))
+      (⊎_elim (λ gone. absurd (none_some place.slot slot gone target.is_there)) (λ same. inr (own.0, record { is_was = own.1; same = same.0; same_row = same.1 }))))
       (leaves_rows element position there.before part own.0 place there.is_part target.is_part own.1 target.is_place)
 
   module _ (was : Place) (it_was : Was was) where
@@ -97,12 +79,12 @@ module _ (absent_before absent_after : ℕ → ℕ → Bool) (before after : Vol
       alike = all_places IsFewerPlace IsAlikePlace there.before.places part.places there.fewer (λ k one other one_at other_at less.
           ⊎_elim
           (λ here.
-          let same_one : was ≡ one = some_is was one (sym it_was.is_was ∙ ap (slice_get there.before.places) (sym here) ∙ one_at) in
-          let same_other : place ≡ other = some_is place other (sym target.is_place ∙ ap (slice_get part.places) (sym here) ∙ other_at) in
+          let same_one : was ≡ one = same_Some was one (sym it_was.is_was ∙ ap (slice_get there.before.places) (sym here) ∙ one_at) in
+          let same_other : place ≡ other = same_Some place other (sym target.is_place ∙ ap (slice_get part.places) (sym here) ∙ other_at) in
           inr (subst (λ (x : Place). IsSamePlace x other) same_one (subst (IsSamePlace was) same_other it_was.same)))
           (λ apart.
-          let available = not_back (is_available other) (only_one (λ (place : Place). not (is_available place)) part.places few position k place other target.is_place other_at
-          (ap not (out_away place.synced place.slot target.is_out)) apart) in
+          let available = not-false (is_available other) (only_one (λ (place : Place). not (is_available place)) part.places few position k place other target.is_place other_at
+          (ap not (no_first_of_and_some place.synced place.slot target.is_out)) apart) in
           ⊎_elim (λ gone. absurd (true_false (is_available other) available gone)) (λ same. inr same) less)
           (cases_eq k position));
       counted = λ was_so. inl (part_keeps there.before part there.same_shape there.fewer (enough part.shape.layout part.places parity few));
@@ -142,7 +124,7 @@ module _ (absent_before absent_after : ℕ → ℕ → Bool) (before after : Vol
     -- positions before it are in sync as they were
     first_by : keeps_parity part.shape.layout ≡ true → Stays → IsFirstOut before element position → IsFirstOut after element position
     first_by parity stay first other other_at other_parity earlier one less at =
-        let same_part : part ≡ other = some_is part other (sym target.is_part ∙ other_at) in
+        let same_part : part ≡ other = same_Some part other (sym target.is_part ∙ other_at) in
         let own = at_places IsAlikePlace there.before.places part.places stay.alike earlier one (ap (λ (x : Part). slice_get x.places earlier) same_part ∙ at) in
         let synced = first there.before there.is_part (was_parity parity) earlier own.0 less own.1 in
         ⊎_elim (λ none. none.2 ∙ synced) (λ same. same.0 ∙ synced) own.2
@@ -156,7 +138,7 @@ module _ (absent_before absent_after : ℕ → ℕ → Bool) (before after : Vol
         (stays parity)
     first_was false plain =
         inr (λ other other_at parity. absurd (true_false (keeps_parity part.shape.layout)
-        (ap (λ (x : Part). keeps_parity x.shape.layout) (some_is part other (sym target.is_part ∙ other_at)) ∙ parity) plain))
+        (ap (λ (x : Part). keeps_parity x.shape.layout) (same_Some part other (sym target.is_part ∙ other_at)) ∙ parity) plain))
 
   each_held : (sector : ℕ) → IsInRows part.shape 0 place.row sector → image slot (place.start + sector) ≡ wanted after image element part sector position
   each_held sector rows = ⊎_elim (λ none. no_rows part place.row sector none rows) (λ was. by_parity was.0 was.1 sector rows (keeps_parity part.shape.layout) refl) cases

@@ -3,6 +3,7 @@ use Rattle.std.proofs.Common.{◌≡◌, ◌∙◌, ⊎_elim, ℕ, zero, suc, �
 use Rattle.std.proofs.Math.Path.{fun_ext}
 use Rattle.std.specs.Prelude.{find, is_some, option_and_then, option_map, option_to_list, unwrap_or, ◌==◌, if◌then◌else◌}
 use Rattle.std.specs.List.{range_with_len, list_any}
+use Rattle.ddf_lemmas.proofs.Lists.{at_first, in_map}
 use Rattle.ddf_bay.specs.Sectors.{Image}
 use Rattle.ddf_parity.specs.Xor.{xor_all, zeros}
 use Rattle.ddf_primary.specs.Placement.{Placement}
@@ -25,26 +26,18 @@ use Rattle.ddf_array.specs.Redundant.{IsRedundant}
 use Rattle.ddf_array.specs.Rows.{holds, block_at, cell_value, data_positions, row_sum, sources_without_block, value_without_block}
 use Rattle.ddf_array.specs.Sound.{HasParity, IsSound, has_block}
 use Rattle.ddf_array.proofs.Enough.{has_source}
+use Rattle.ddf_array.proofs.Losses.{all_keep}
 use Rattle.ddf_cells.specs.CellSources.{is_parity, wanted}
-use Rattle.ddf_cells.proofs.Lists.{in_map}
 use Rattle.ddf_data_array.specs.Allowed.{Allowed}
 use Rattle.ddf_data_array.specs.Fewer.{IsAlikePlace, IsFewerPlace, ArePlaces, NoneLeft, IsFewer, LeavesParity}
 use Rattle.ddf_data_array.specs.Kept.{IsKeptData}
 use Rattle.ddf_data_array.specs.Rows.{AreRowsKept}
 use Rattle.ddf_data_array.proofs.From.{copy_from, copy_to, source_from, source_to}
-use Rattle.ddf_data_array.proofs.Fewer.{all_keep, away_alike, from_before, none_there, part_before, same_count, site_keeps, sites_alike, spots_same, was_within}
+use Rattle.ddf_data_array.proofs.Fewer.{away_alike, from_before, none_there, part_before, same_count, site_keeps, sites_alike, spots_same, was_within}
 
 pub first_item : {X : Type 0} (all : List X) → 0 < length all → (x : X) × (slice_get all 0 ≡ Some x)
 first_item [] some = absurd (omega arith)
 first_item (x ∷ all) some = (x, refl)
-
-pub first_of : {X : Type 0} (all : List X) (k : ℕ) (y : X) → slice_get all k ≡ Some y → (x : X) × (slice_get all 0 ≡ Some x)
-first_of [] k y e = absurd (cc)
-first_of (x ∷ all) k y e = (x, refl)
-
-pub same_some : {X : Type 0} (o : Option X) (x y : X) → o ≡ Some x → o ≡ Some y → x ≡ y
-same_some None x y a b = absurd (cc)
-same_some (Some z) x y a b = cc
 
 found_by : (test : ℕ → Bool) (a n x : ℕ) (b : Bool) (rest : Option ℕ) → (if b then Some a else rest) ≡ Some x → (rest ≡ Some x → x < a + suc n) → x < a + suc n
 found_by test a n x true rest e later = let same : a ≡ x = cc in omega (arith, same)
@@ -84,7 +77,7 @@ module _ (before after : Volume) (fewer : IsFewer before after) where
 
   pub value_same : (image : Image) → IsRedundant before image → (block k : ℕ) (source : Source) → slice_get (every_source after block) k ≡ Some source → value after image block ≡ value before image block
   value_same image is block k source at =
-      let first = first_of (every_source after block) k source at in
+      let first = at_first (every_source after block) k source at in
       ap (option_map (given image)) first.1 ∙ sym (value_by image is block 0 first.0 first.1)
 
   pub redundant_less : (image : Image) → IsRedundant before image → IsRedundant after image

@@ -1,4 +1,3 @@
-pub mod Ranges
 pub mod From
 pub mod Sitting
 pub mod Plain
@@ -24,3 +23,4 @@ pub mod MovedKept
 pub mod Holding
 pub mod Given
 pub mod Histories
+pub mod Common

@@ -5,27 +5,17 @@ use Rattle.std.specs.List.{cons_option, count_by, flat_map, list_all, list_any}
 use Rattle.std.proofs.lemmas.List.{map-append}
 use Rattle.std.proofs.lemmas.List.Sums.{sum_by-cons}
 use Rattle.std.proofs.lemmas.Option.{none-some}
+use Rattle.ddf_lemmas.proofs.Lists.{not_empty, same_first, same_rest}
+use Rattle.ddf_lemmas.proofs.Options.{some_is}
 use Rattle.ddf_array.specs.Sources.{all_of}
-
-pub some_is : {X : Type 0} {a b : X} → Some a ≡ Some b → a ≡ b
-some_is e = cc
-
-pub heads_are : {X : Type 0} (a b : X) (xs ys : List X) → a ∷ xs ≡ b ∷ ys → a ≡ b
-heads_are a b xs ys e = cc
-
-tails_are : {X : Type 0} (a b : X) (xs ys : List X) → a ∷ xs ≡ b ∷ ys → xs ≡ ys
-tails_are a b xs ys e = cc
-
-pub no_item : {X : Type 0} (x : X) (xs : List X) → [] ≡ x ∷ xs → ⊥
-no_item x xs e = cc
 
 module _ {Y Z : Type 0} (h : Y → Z) where
   -- an item, and the one at its place
   pub item_of : (xs ys : List Y) → map h xs ≡ map h ys → (k : ℕ) (x : Y) → slice_get xs k ≡ Some x → (y : Y) × (slice_get ys k ≡ Some y) × (h x ≡ h y)
   item_of [] ys same k x at = absurd (none-some x at)
-  item_of (a ∷ xs) [] same k x at = absurd (no_item (h a) (map h xs) (sym same))
-  item_of (a ∷ xs) (b ∷ ys) same zero x at = (b, refl, ap h (sym (some_is at)) ∙ heads_are (h a) (h b) (map h xs) (map h ys) same)
-  item_of (a ∷ xs) (b ∷ ys) same (suc k) x at = item_of xs ys (tails_are (h a) (h b) (map h xs) (map h ys) same) k x at
+  item_of (a ∷ xs) [] same k x at = absurd (not_empty (h a) (map h xs) (sym same))
+  item_of (a ∷ xs) (b ∷ ys) same zero x at = (b, refl, ap h (sym (some_is at)) ∙ same_first (h a) (h b) (map h xs) (map h ys) same)
+  item_of (a ∷ xs) (b ∷ ys) same (suc k) x at = item_of xs ys (same_rest (h a) (h b) (map h xs) (map h ys) same) k x at
 
   pub some_of : (o r : Option Y) → option_map h o ≡ option_map h r → (x : Y) → o ≡ Some x → (y : Y) × (r ≡ Some y) × (h x ≡ h y)
   some_of None r same x at = absurd (none-some x at)
@@ -34,9 +24,9 @@ module _ {Y Z : Type 0} (h : Y → Z) where
 
   pub first_same : (xs ys : List Y) → map h xs ≡ map h ys → option_map h (slice_get xs 0) ≡ option_map h (slice_get ys 0)
   first_same [] [] same = refl
-  first_same [] (b ∷ ys) same = absurd (no_item (h b) (map h ys) same)
-  first_same (a ∷ xs) [] same = absurd (no_item (h a) (map h xs) (sym same))
-  first_same (a ∷ xs) (b ∷ ys) same = ap Some (heads_are (h a) (h b) (map h xs) (map h ys) same)
+  first_same [] (b ∷ ys) same = absurd (not_empty (h b) (map h ys) same)
+  first_same (a ∷ xs) [] same = absurd (not_empty (h a) (map h xs) (sym same))
+  first_same (a ∷ xs) (b ∷ ys) same = ap Some (same_first (h a) (h b) (map h xs) (map h ys) same)
 
   -- what is found for each item
   cons_same : (a b : Option Y) (xs ys : List Y) → option_map h a ≡ option_map h b → map h xs ≡ map h ys → map h (cons_option a xs) ≡ map h (cons_option b ys)
@@ -79,27 +69,27 @@ module _ {Y Z : Type 0} (h : Y → Z) where
 module _ {X : Type 0} (test : X → Bool) where
   pub any_same : (xs ys : List X) → map test xs ≡ map test ys → list_any test xs ≡ list_any test ys
   any_same [] [] same = refl
-  any_same [] (b ∷ ys) same = absurd (no_item (test b) (map test ys) same)
-  any_same (a ∷ xs) [] same = absurd (no_item (test a) (map test xs) (sym same))
+  any_same [] (b ∷ ys) same = absurd (not_empty (test b) (map test ys) same)
+  any_same (a ∷ xs) [] same = absurd (not_empty (test a) (map test xs) (sym same))
   any_same (a ∷ xs) (b ∷ ys) same =
-      ap (λ first. first || list_any test xs) (heads_are (test a) (test b) (map test xs) (map test ys) same)
-      ∙ ap (λ rest. test b || rest) (any_same xs ys (tails_are (test a) (test b) (map test xs) (map test ys) same))
+      ap (λ first. first || list_any test xs) (same_first (test a) (test b) (map test xs) (map test ys) same)
+      ∙ ap (λ rest. test b || rest) (any_same xs ys (same_rest (test a) (test b) (map test xs) (map test ys) same))
 
   pub each_same : (xs ys : List X) → map test xs ≡ map test ys → list_all test xs ≡ list_all test ys
   each_same [] [] same = refl
-  each_same [] (b ∷ ys) same = absurd (no_item (test b) (map test ys) same)
-  each_same (a ∷ xs) [] same = absurd (no_item (test a) (map test xs) (sym same))
+  each_same [] (b ∷ ys) same = absurd (not_empty (test b) (map test ys) same)
+  each_same (a ∷ xs) [] same = absurd (not_empty (test a) (map test xs) (sym same))
   each_same (a ∷ xs) (b ∷ ys) same =
-      ap (λ first. first && list_all test xs) (heads_are (test a) (test b) (map test xs) (map test ys) same)
-      ∙ ap (λ rest. test b && rest) (each_same xs ys (tails_are (test a) (test b) (map test xs) (map test ys) same))
+      ap (λ first. first && list_all test xs) (same_first (test a) (test b) (map test xs) (map test ys) same)
+      ∙ ap (λ rest. test b && rest) (each_same xs ys (same_rest (test a) (test b) (map test xs) (map test ys) same))
 
   pub count_same : (xs ys : List X) → map test xs ≡ map test ys → count_by (λ x. not (test x)) xs ≡ count_by (λ x. not (test x)) ys
   count_same [] [] same = refl
-  count_same [] (b ∷ ys) same = absurd (no_item (test b) (map test ys) same)
-  count_same (a ∷ xs) [] same = absurd (no_item (test a) (map test xs) (sym same))
+  count_same [] (b ∷ ys) same = absurd (not_empty (test b) (map test ys) same)
+  count_same (a ∷ xs) [] same = absurd (not_empty (test a) (map test xs) (sym same))
   count_same (a ∷ xs) (b ∷ ys) same =
       let weight : X → ℕ = λ x. if not (test x) then 1 else 0 in
       sum_by-cons weight a xs
-      ∙ ap (λ first. (if not first then 1 else 0) + count_by (λ x. not (test x)) xs) (heads_are (test a) (test b) (map test xs) (map test ys) same)
-      ∙ ap (λ rest. weight b + rest) (count_same xs ys (tails_are (test a) (test b) (map test xs) (map test ys) same))
+      ∙ ap (λ first. (if not first then 1 else 0) + count_by (λ x. not (test x)) xs) (same_first (test a) (test b) (map test xs) (map test ys) same)
+      ∙ ap (λ rest. weight b + rest) (count_same xs ys (same_rest (test a) (test b) (map test xs) (map test ys) same))
       ∙ sym (sum_by-cons weight b ys)

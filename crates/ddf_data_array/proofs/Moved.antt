@@ -6,6 +6,8 @@ use Rattle.std.specs.List.{count_by, flat_map, list_any, range_with_len}
 use Rattle.std.proofs.lemmas.Bool.{false≢true}
 use Rattle.std.proofs.lemmas.List.{map-append}
 use Rattle.std.proofs.lemmas.Option.{none-some}
+use Rattle.ddf_lemmas.proofs.Lists.{map_alike, not_empty, same_first}
+use Rattle.ddf_lemmas.proofs.Options.{some_is}
 use Rattle.ddf_bay.specs.Sectors.{Image}
 use Rattle.ddf_parity.specs.Xor.{xor_all, zeros}
 use Rattle.ddf_primary.specs.declared.need.Need.{Need}
@@ -31,15 +33,14 @@ use Rattle.ddf_array.specs.Values.{bytes_at, given, sum_at, value}
 use Rattle.ddf_array.specs.Redundant.{whole_row}
 use Rattle.ddf_array.specs.Rows.{block_at, cell_value, data_positions, holds, row_sum, sources_without_block, value_without_block}
 use Rattle.ddf_array.specs.Sound.{has_block}
+use Rattle.ddf_array.proofs.LossLevels.{away}
 use Rattle.ddf_cells.specs.CellSources.{is_parity, wanted}
 use Rattle.ddf_cells.proofs.BlockOf.{cell_in}
 use Rattle.ddf_data_array.specs.Changing.{changed_item}
 use Rattle.ddf_data_array.specs.Moved.{HoldsTheSame, IsIdleParity, moved, part_moved, place_moved}
-use Rattle.ddf_data_array.proofs.Fewer.{away}
 use Rattle.ddf_data_array.proofs.Idle.{data_apart, not_parity, row_none, whole_none}
 use Rattle.ddf_data_array.proofs.Items.{changed_cases, changed_length}
-use Rattle.ddf_data_array.proofs.Mapped.{all_or, any_same, count_same, each_same, first_same, flat_same, found_same, heads_are, no_item, some_is}
-use Rattle.ddf_data_array.proofs.Ranges.{map_in}
+use Rattle.ddf_data_array.proofs.Mapped.{all_or, any_same, count_same, each_same, first_same, flat_same, found_same}
 
 -- ---- sources by the bytes that they give
 
@@ -74,9 +75,9 @@ module _ (image : Image) where
   -- what a cell without a block is read as
   first_given : (xs ys : List Source) → map (given image) xs ≡ map (given image) ys → value_without_block image xs ≡ value_without_block image ys
   first_given [] [] same = refl
-  first_given [] (b ∷ ys) same = absurd (no_item (given image b) (map (given image) ys) same)
-  first_given (a ∷ xs) [] same = absurd (no_item (given image a) (map (given image) xs) (sym same))
-  first_given (a ∷ xs) (b ∷ ys) same = heads_are (given image a) (given image b) (map (given image) xs) (map (given image) ys) same
+  first_given [] (b ∷ ys) same = absurd (not_empty (given image b) (map (given image) ys) same)
+  first_given (a ∷ xs) [] same = absurd (not_empty (given image a) (map (given image) xs) (sym same))
+  first_given (a ∷ xs) (b ∷ ys) same = same_first (given image a) (given image b) (map (given image) xs) (map (given image) ys) same
 
   without_rest : (b : Bool) (o r : Option Site) (rows rows' : Option (List Site)) → option_map bytes o ≡ option_map bytes r → option_map (map bytes) rows ≡ option_map (map bytes) rows'
       → value_without_block image (map copy (option_to_list o) ++ (if b then map row (option_to_list rows) else [])) ≡ value_without_block image (map copy (option_to_list r) ++ (if b then map row (option_to_list rows') else []))
@@ -370,7 +371,7 @@ module _ (v : Volume) (known : IsVolume v) (image : Image) (e p slot start : ℕ
     sum_now sector below =
         ap (λ (s : Placement). xor_all (map (cell_value now image f part sector) (data_positions s sector))) alike.shape_is
         ∙ ap xor_all
-        (map_in (cell_value now image f part sector) (cell_value v image f was sector) (data_positions was.shape sector) (λ k q at. cell_now sector below q (data_apart was sector k q at)))
+        (map_alike (cell_value now image f part sector) (cell_value v image f was sector) (data_positions was.shape sector) (λ k q at. cell_now sector below q (data_apart was sector k q at)))
 
     wanted_by : (b : Bool) (sector q : ℕ) → sector < depth_of was.shape → is_parity was q sector ≡ b
         → (if b then row_sum now image f part sector else cell_value now image f part sector q) ≡ (if b then row_sum v image f was sector else cell_value v image f was sector q)

@@ -1,5 +1,6 @@
 -- An array keeps what it keeps where rows that are set are counted as rebuilt.
 use Rattle.std.proofs.Common.{◌≡◌, ◌≢◌, ◌∙◌, ◌⊎◌, inl, inr, ⊎_elim, ℕ, zero, suc, ◌+◌, Bool, true, false, List, [], ◌∷◌, Some, refl, sym, ap, subst, arith, map, slice_get}
+use Rattle.ddf_lemmas.proofs.Options.{some_is}
 use Rattle.ddf_bay.specs.Sectors.{Image}
 use Rattle.ddf_primary.specs.Placement.{Placement}
 use Rattle.ddf_primary.specs.Levels.{IsShape}
@@ -21,9 +22,6 @@ use Rattle.ddf_data_array.proofs.Fewer.{at_places, same_count, was_within}
 use Rattle.ddf_data_array.proofs.Items.{changed_cases}
 use Rattle.ddf_data_array.proofs.Lessened.{kept_but_rows, wanted_alike}
 use Rattle.ddf_data_array.proofs.RowsKept.{has_rebuilt, no_rows}
-
-some_is : {X : Type 0} {a b : X} → Some a ≡ Some b → a ≡ b
-some_is e = cc
 
 -- ---- places: they are where they were
 
@@ -65,7 +63,7 @@ row_of row p places q place at =
 
 -- ---- elements
 
-all_itself : (parts : List Part) → AreFewerParts parts parts
+pub all_itself : (parts : List Part) → AreFewerParts parts parts
 all_itself [] = tt
 all_itself (part ∷ parts) = ((refl, fewer_of part.places part.places (itself part.places)), all_itself parts)
 

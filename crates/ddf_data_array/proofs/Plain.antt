@@ -1,38 +1,27 @@
 -- An array that isn't redundant has one source of each block, and no parity.
-use Rattle.std.proofs.Common.{◌≡◌, ◌∙◌, ℕ, zero, suc, ◌/◌, ◌≤◌, Bool, true, false, List, [], ◌∷◌, Option, Some, None, refl, sym, ap, subst, arith, length, slice_get, ◌&&◌, ◌||◌}
-use Rattle.std.specs.Prelude.{nat_le, option_map, if◌then◌else◌}
-use Rattle.std.specs.List.{range_with_len, list_any}
-use Rattle.std.proofs.lemmas.Bool.{le-leb}
-use Rattle.std.proofs.lemmas.List.{length-map}
+use Rattle.std.proofs.Common.{◌≡◌, ◌∙◌, ℕ, zero, suc, ◌/◌, ◌≤◌, Bool, true, false, List, [], ◌∷◌, Option, Some, None, refl, sym, ap, subst, arith, length, slice_get}
+use Rattle.std.specs.Prelude.{option_map}
+use Rattle.std.specs.List.{list_any}
+use Rattle.std.proofs.lemmas.Bool.{or_parts}
+use Rattle.ddf_lemmas.proofs.Lists.{any_none}
+use Rattle.ddf_lemmas.proofs.Tests.{true_false}
 use Rattle.ddf_bay.specs.Sectors.{Image}
 use Rattle.ddf_primary.proofs.Needs.{parity_keeps}
 use Rattle.ddf_primary.proofs.Copies.{few_copies}
 use Rattle.ddf_secondary.specs.declared.spot.Spot.{Spot}
-use Rattle.ddf_secondary.specs.Spots.{spots}
 use Rattle.ddf_array.specs.declared.part.Part.{Part}
 use Rattle.ddf_array.specs.declared.site.Site.{Site}
 use Rattle.ddf_array.specs.Places.{site_at}
 use Rattle.ddf_array.specs.Levels.{keeps_copies, keeps_parity}
 use Rattle.ddf_array.specs.Volume.{Volume}
-use Rattle.ddf_array.specs.Cells.{element_cells, is_in_every, elements_like, spots_like, block_spots}
+use Rattle.ddf_array.specs.Cells.{element_cells, block_spots}
 use Rattle.ddf_array.specs.Sources.{Source, copy, row, every_source}
 use Rattle.ddf_array.specs.Values.{bytes_at, given}
 use Rattle.ddf_array.specs.Within.{is_mirrored, keeps_more, is_redundant}
 use Rattle.ddf_array.specs.Redundant.{IsRedundant}
 use Rattle.ddf_array.specs.Sound.{AreSectors, HasParity, IsSound}
+use Rattle.ddf_array.proofs.Consistent.{few_spots}
 use Rattle.ddf_data_array.proofs.From.{IsFrom, source_from}
-
-pub or_none : (a b : Bool) → (a || b) ≡ false → (a ≡ false) × (b ≡ false)
-or_none true b e = absurd (cc)
-or_none false b e = (refl, e)
-
-any_none : {X : Type 0} (p : X → Bool) (xs : List X) → list_any p xs ≡ false → (k : ℕ) (x : X) → slice_get xs k ≡ Some x → p x ≡ false
-any_none p [] e k x at = absurd (cc)
-any_none p (y ∷ ys) e zero x at = let same : y ≡ x = cc in subst (λ z. p z ≡ false) same (or_none (p y) (list_any p ys) e).0
-any_none p (y ∷ ys) e (suc k) x at = any_none p ys (or_none (p y) (list_any p ys) e).1 k x at
-
-true_false : (b : Bool) → b ≡ true → b ≡ false → ⊥
-true_false b a c = cc
 
 -- a list of one item at most
 lone : {X : Type 0} (xs : List X) (j k : ℕ) (x y : X) → length xs ≤ 1 → slice_get xs j ≡ Some x → slice_get xs k ≡ Some y → x ≡ y
@@ -42,38 +31,16 @@ lone (z ∷ []) zero (suc k) x y le a b = absurd (cc)
 lone (z ∷ []) (suc j) k x y le a b = absurd (cc)
 lone (z ∷ (w ∷ xs)) j k x y le a b = absurd (omega arith)
 
-few_by : (count element : ℕ) (every two : Bool) → nat_le 2 count ≡ two → (every && two) ≡ false → length (if every then range_with_len 0 count else element ∷ []) ≤ 1
-few_by count element false two is alone = omega arith
-few_by zero element true two is alone = omega arith
-few_by (suc zero) element true two is alone = omega arith
-few_by (suc (suc count)) element true two is alone =
-    let more : nat_le 2 (suc (suc count)) ≡ true = le-leb 2 (suc (suc count)) (omega arith) in absurd (true_not_false (sym more ∙ is ∙ alone))
-  where
-    true_not_false : true ≡ false → ⊥
-    true_not_false e = cc
-
-few_spots : (v : Volume) (block : ℕ) → is_mirrored v ≡ false → length (block_spots v block) ≤ 1
-few_spots v block alone = by_spot (slice_get (spots v.tiers) block)
-  where
-    by_spot : (found : Option Spot) → length {A = Spot} (elim found [ None ↦ [] | Some spot ↦ spots_like v.tiers.level (length v.parts) spot ]) ≤ 1
-    by_spot None = omega arith
-    by_spot (Some spot) =
-        let elements = elements_like v.tiers.level (length v.parts) spot.element in
-        let few = few_by (length v.parts) spot.element (is_in_every v.tiers.level) (nat_le 2 (length v.parts)) refl alone in
-        let place : ℕ → Spot = λ element. record { element = element; block = spot.block } in
-        let same = length-map elements place in
-        omega (arith, few, same)
-
 module _ (v : Volume) (plain : is_redundant v ≡ false) where
   pub alone : is_mirrored v ≡ false
-  alone = (or_none (is_mirrored v) (list_any keeps_more v.parts) plain).0
+  alone = (or_parts (is_mirrored v) (list_any keeps_more v.parts) plain).0
 
   pub keeps_one : (element : ℕ) (part : Part) → slice_get v.parts element ≡ Some part → keeps_more part ≡ false
-  keeps_one element part at = any_none keeps_more v.parts (or_none (is_mirrored v) (list_any keeps_more v.parts) plain).1 element part at
+  keeps_one element part at = any_none keeps_more v.parts (or_parts (is_mirrored v) (list_any keeps_more v.parts) plain).1 element part at
 
   pub no_rows : (element : ℕ) (part : Part) → slice_get v.parts element ≡ Some part → keeps_parity part.shape.layout ≡ true → ⊥
   no_rows element part at parity =
-      true_false (keeps_parity part.shape.layout) parity (or_none (keeps_copies part.shape.layout) (keeps_parity part.shape.layout) (keeps_one element part at)).1
+      true_false (keeps_parity part.shape.layout) parity (or_parts (keeps_copies part.shape.layout) (keeps_parity part.shape.layout) (keeps_one element part at)).1
 
   -- each source is a copy
   pub plain_copy : (block : ℕ) (source : Source) → IsFrom v block source → (one : Site) × (source ≡ copy one)
@@ -89,7 +56,7 @@ module _ (v : Volume) (plain : is_redundant v ≡ false) where
   one_copy block one other a b =
       let spot : a.spot ≡ b.spot = lone (block_spots v block) a.j b.j a.spot b.spot (few_spots v block alone) a.is_spot b.is_spot in
       let part : a.part ≡ b.part = same_part (slice_get v.parts b.spot.element) a.part b.part (ap (λ (s : Spot). slice_get v.parts s.element) (sym spot) ∙ a.is_part) b.is_part in
-      let single = (or_none (keeps_copies b.part.shape.layout) (keeps_parity b.part.shape.layout) (keeps_one b.spot.element b.part b.is_part)).0 in
+      let single = (or_parts (keeps_copies b.part.shape.layout) (keeps_parity b.part.shape.layout) (keeps_one b.spot.element b.part b.is_part)).0 in
       let cell_at : slice_get (element_cells b.part.shape b.spot.block) a.i ≡ Some a.cell =
       ap (λ (p : Part). slice_get (element_cells p.shape b.spot.block) a.i) (sym part) ∙ ap (λ (s : Spot). slice_get (element_cells a.part.shape s.block) a.i) (sym spot) ∙ a.is_cell in
       let cell : a.cell ≡ b.cell = lone (element_cells b.part.shape b.spot.block) a.i b.i a.cell b.cell (few_copies b.part.shape b.spot.block single) cell_at b.is_cell in

@@ -1,8 +1,8 @@
 -- The parity of a row of which one position isn't there: what the row gives of that position is its value, so the parity is the row's sum.
-use Rattle.std.proofs.Common.{◌≡◌, ◌≢◌, ◌∙◌, ℕ, zero, suc, ◌+◌, ◌/◌, ◌<◌, Bool, true, false, List, [], ◌∷◌, ◌++◌, Option, Some, None, refl, sym, ap, arith, map, length, slice_get}
+use Rattle.std.proofs.Common.{◌≡◌, ◌≢◌, ◌∙◌, ℕ, ◌/◌, ◌<◌, Bool, true, false, List, [], ◌∷◌, ◌++◌, Option, Some, None, refl, sym, ap, map, length, slice_get}
 use Rattle.std.specs.Prelude.{option_map, option_to_list, unwrap_or, ◌==◌, if◌then◌else◌}
-use Rattle.std.specs.List.{range_with_len}
 use Rattle.std.proofs.lemmas.Bool.{eqb-true}
+use Rattle.ddf_lemmas.proofs.Options.{none_some, same_some}
 use Rattle.ddf_bay.specs.Sectors.{Image}
 use Rattle.ddf_parity.specs.Xor.{xor_all, zeros}
 use Rattle.ddf_primary.specs.Cells.{parity_member}
@@ -18,41 +18,13 @@ use Rattle.ddf_array.specs.Redundant.{IsRedundant}
 use Rattle.ddf_array.specs.Rows.{block_at, cell_value, row_sum, sources_without_block, value_without_block}
 use Rattle.ddf_array.specs.Sound.{AreSectors}
 use Rattle.ddf_array.proofs.RowParity.{cell_value_is}
+use Rattle.ddf_array.proofs.RowSums.{long_sum as long_sites, long_zeros}
 use Rattle.ddf_cells.proofs.Redundance.{held}
 use Rattle.ddf_data_array.proofs.From.{made_of, source_to}
-use Rattle.ddf_data_array.proofs.Totals.{long_sum, long_zeros, parity_from, with_sum}
+use Rattle.ddf_data_array.proofs.Totals.{parity_from, with_sum}
 use Rattle.ddf_data_array.proofs.Sitting.{held_from}
 
-pub same_site : (o : Option Site) (one other : Site) → o ≡ Some one → o ≡ Some other → one ≡ other
-same_site None one other a b = absurd (cc)
-same_site (Some x) one other a b = cc
-
-not_some : {X : Type 0} (o : Option X) (x : X) → o ≡ None → o ≡ Some x → ⊥
-not_some o x a b = cc
-
 -- ---- what is read has 512 bytes
-
-long_sites : (image : Image) → AreSectors image → (sites : List Site) → length (sum_at image sites) ≡ 512
-long_sites image are sites = ap (λ l. length (xor_all l)) (sym (bytes sites)) ∙ long_sum (byte sites) (long_byte sites) (range_with_len 0 (length sites))
-  where
-    byte : List Site → ℕ → List ℕ
-    byte [] k = zeros
-    byte (one ∷ sites) zero = bytes_at image one
-    byte (one ∷ sites) (suc k) = byte sites k
-
-    long_byte : (sites : List Site) (k : ℕ) → length (byte sites k) ≡ 512
-    long_byte [] k = long_zeros
-    long_byte (one ∷ sites) zero = are one.slot one.lba
-    long_byte (one ∷ sites) (suc k) = long_byte sites k
-
-    shifted : (f g : ℕ → List ℕ) (a n : ℕ) → ((k : ℕ) → f (suc k) ≡ g k) → map f (range_with_len (a + 1) n) ≡ map g (range_with_len a n)
-    shifted f g a zero same = refl
-    shifted f g a (suc n) same =
-        ap (λ l. l ∷ map f (range_with_len (a + 1 + 1) n)) (ap f (let e : a + 1 ≡ suc a = omega arith in e) ∙ same a) ∙ ap (λ l. g a ∷ l) (shifted f g (a + 1) n same)
-
-    bytes : (sites : List Site) → map (byte sites) (range_with_len 0 (length sites)) ≡ map (bytes_at image) sites
-    bytes [] = refl
-    bytes (one ∷ sites) = ap (λ l. bytes_at image one ∷ l) (shifted (byte (one ∷ sites)) (byte sites) 0 (length sites) (λ k. refl) ∙ bytes sites)
 
 module _ (v : Volume) (image : Image) (are : AreSectors image) (e : ℕ) (part : Part) (sector : ℕ) where
   long_value : (o : Option Source) → length (unwrap_or (option_map (given image) o) zeros) ≡ 512
@@ -112,9 +84,9 @@ module _ (v : Volume) (known : IsVolume v) (image : Image) (are : AreSectors ima
         → bytes_at image one ≡ row_sum v image e part sector
     parity_right p_below sites there one at =
         let own = bytes_at image one in
-        let apart : p ≢ par = λ same. not_some (site_at part.places par sector) one (ap (λ (n : ℕ). site_at part.places n sector) (sym same) ∙ none_at) at in
+        let apart : p ≢ par = λ same. none_some (site_at part.places par sector) one (ap (λ (n : ℕ). site_at part.places n sector) (sym same) ∙ none_at) at in
         let par_below = parity_below part.shape.layout part.shape.members (sector / part.shape.strip) par (some_members part.shape.layout part.shape.members (known.are_parts e part part_at).shape_is.members_taken) par_is in
-        let right : (other : Site) → site_at part.places par sector ≡ Some other → bytes_at image other ≡ own = λ other is_at. ap (bytes_at image) (same_site (site_at part.places par sector) other one is_at at) in
+        let right : (other : Site) → site_at part.places par sector ≡ Some other → bytes_at image other ≡ own = λ other is_at. ap (bytes_at image) (same_some (site_at part.places par sector) other one is_at at) in
         let by_sites : map (with_sum own cell par) (other_positions (length part.places) p) ≡ map (bytes_at image) sites =
         held image (λ q. site_at part.places q sector) (with_sum own cell par) (λ q site is_at. holds_by own right q site is_at (par == q) refl) (other_positions (length part.places) p) sites there in
         let own_cell : cell p ≡ xor_all (map (with_sum own cell par) (other_positions part.shape.members p)) =

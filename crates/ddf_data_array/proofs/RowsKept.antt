@@ -1,9 +1,11 @@
 -- Rows that rebuilds have set hold what they should while the array's extents stay as they are, where a rebuild goes on behind them, and where there are none.
-use Rattle.std.proofs.Common.{◌≡◌, ◌∙◌, inl, ⊎_elim, ℕ, ◌+◌, ◌*◌, ◌<◌, ◌≤◌, Bool, true, false, Some, refl, sym, ap, subst, arith, slice_get, ◌&&◌}
+use Rattle.std.proofs.Common.{◌≡◌, ◌∙◌, inl, ⊎_elim, ℕ, ◌+◌, ◌*◌, ◌<◌, ◌≤◌, Bool, true, false, refl, sym, ap, subst, arith, slice_get, ◌&&◌}
 use Rattle.std.specs.Prelude.{is_some, if◌then◌else◌}
 use Rattle.std.specs.List.{list_all, list_any}
 use Rattle.std.proofs.Math.Nat.{mul-le-mul_right}
-use Rattle.std.proofs.lemmas.Bool.{cases_lt}
+use Rattle.std.proofs.lemmas.Bool.{cases_lt, or_parts}
+use Rattle.std.proofs.lemmas.Option.{same_Some}
+use Rattle.ddf_lemmas.proofs.Tests.{true_false}
 use Rattle.ddf_bay.specs.Sectors.{Image}
 use Rattle.ddf_primary.specs.declared.need.Need.{Need}
 use Rattle.ddf_primary.proofs.Needs.{lone_needs}
@@ -30,13 +32,7 @@ use Rattle.ddf_rebuild.proofs.Aiming.{same_target}
 use Rattle.ddf_rebuild.proofs.Kept.{alike_rebuilding}
 use Rattle.ddf_data_array.specs.Changing.{IsWritable}
 use Rattle.ddf_data_array.specs.Rows.{AreAlikeThroughout, AreRowsKept, GoesOnBehind, HasNoRows}
-use Rattle.ddf_data_array.proofs.Plain.{alone, keeps_one, or_none}
-
-true_false : (b : Bool) → b ≡ true → b ≡ false → ⊥
-true_false b x y = cc
-
-some_is : {X : Type 0} (x y : X) → Some x ≡ Some y → x ≡ y
-some_is x y e = cc
+use Rattle.ddf_data_array.proofs.Plain.{alone, keeps_one}
 
 -- no sector is below no rows
 pub no_rows : {A : Type 0} (part : Part) (row sector : ℕ) → row ≡ 0 → IsInRows part.shape 0 row sector → A
@@ -50,7 +46,7 @@ module _ (v : Volume) (image : Image) (element position row : ℕ) (part : Part)
       → HasRebuilt v element position 0 row image image
   has_rebuilt each other_part other_place other_slot sector other rows =
       let looked = same_target v element position part other_part place other_place target.is_part other.is_part target.is_place other.is_place in
-      let on : slot ≡ other_slot = some_is slot other_slot (sym target.is_there ∙ ap (λ (p : Place). p.slot) looked.1 ∙ other.is_there) in
+      let on : slot ≡ other_slot = same_Some slot other_slot (sym target.is_there ∙ ap (λ (p : Place). p.slot) looked.1 ∙ other.is_there) in
       ap (λ (s : ℕ). image s (other_place.start + sector)) (sym on)
       ∙ ap (λ (p : Place). image slot (p.start + sector)) (sym looked.1)
       ∙ each sector (subst (λ (p : Part). IsInRows p.shape 0 row sector) (sym looked.0) rows)
@@ -165,7 +161,7 @@ module _ (v : Volume) (plain : is_redundant v ≡ false) (within : is_within v �
 
   pub never_out : ⊥
   never_out =
-      let plain_part = or_none (keeps_copies part.shape.layout) (keeps_parity part.shape.layout) (keeps_one v plain element part target.is_part) in
+      let plain_part = or_parts (keeps_copies part.shape.layout) (keeps_parity part.shape.layout) (keeps_one v plain element part target.is_part) in
       true_false place.synced (all_synced (all_pass is_available part.places (all_available part_within plain_part.0 plain_part.1) position place target.is_place)) target.is_out
     where
       all_available : is_part_within part ≡ true → keeps_copies part.shape.layout ≡ false → keeps_parity part.shape.layout ≡ false → list_all is_available part.places ≡ true

@@ -1,6 +1,7 @@
 -- The block that a cell holds is found from the cell, and the cell from its block.
 use Rattle.std.proofs.Common.{◌≡◌, ◌∙◌, ℕ, ◌<◌, Some, refl, sym, ap, slice_get}
 use Rattle.std.proofs.lemmas.Option.{slice_get_within}
+use Rattle.ddf_lemmas.proofs.Options.{some_is}
 use Rattle.ddf_primary.specs.Levels.{IsShape}
 use Rattle.ddf_primary.specs.Cells.{depth_of}
 use Rattle.ddf_primary.proofs.ShapeFacts.{cell_facts}
@@ -38,9 +39,6 @@ pub record IsHeld (v : Volume) (element : ℕ) (part : Part) (position sector bl
   pub same_element : has.spot.element ≡ element
   pub same_part : has.part ≡ part
   pub same_cell : has.cell ≡ (position, sector)
-
-some_is : {X : Type 0} {a b : X} → Some a ≡ Some b → a ≡ b
-some_is e = cc
 
 pub held_from : (v : Volume) → IsVolume v → (element : ℕ) (part : Part) (position sector block : ℕ) → slice_get v.parts element ≡ Some part → block_at v element position sector ≡ Some block
     → IsHeld v element part position sector block

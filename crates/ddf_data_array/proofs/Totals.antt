@@ -1,11 +1,11 @@
 -- The sum of a row of which one cell is the sum of the others.
-use Rattle.std.proofs.Common.{◌≡◌, ◌≢◌, ◌∙◌, ⊎_elim, ℕ, zero, suc, ◌+◌, ◌-◌, ◌<◌, ◌≤◌, Bool, true, false, not, List, [], ◌∷◌, ◌++◌, Some, refl, sym, ap, arith, map, length, slice_get}
-use Rattle.std.specs.Prelude.{bit_xor, filter, ◌==◌, if◌then◌else◌}
+use Rattle.std.proofs.Common.{◌≡◌, ◌≢◌, ◌∙◌, ⊎_elim, ℕ, zero, suc, ◌+◌, ◌-◌, ◌<◌, ◌≤◌, Bool, true, false, List, [], ◌∷◌, ◌++◌, Some, refl, sym, ap, arith, map, length, slice_get}
+use Rattle.std.specs.Prelude.{bit_xor, ◌==◌, if◌then◌else◌}
 use Rattle.std.specs.List.{range_with_len}
 use Rattle.std.proofs.lemmas.Bool.{ne_eqb, eq-eqb, cases_lt}
-use Rattle.std.proofs.lemmas.List.{map-append, length-replicate}
-use Rattle.std.proofs.lemmas.List.Elements.{filter-append}
+use Rattle.std.proofs.lemmas.List.{map-append}
 use Rattle.std.proofs.lemmas.Simd.{length-zip2}
+use Rattle.ddf_lemmas.proofs.Lists.{first_get, in_either, in_second, slice_get-range}
 use Rattle.ddf_parity.specs.Xor.{xor, xor_all, zeros}
 use Rattle.ddf_parity.specs.XorLaws.{xor_all_first, xor_all_taken_out, xor_with_itself, same_from_zero}
 use Rattle.ddf_primary.specs.declared.layout.Layout.{Layout}
@@ -16,16 +16,11 @@ use Rattle.ddf_primary.proofs.Needs.{parity_row}
 use Rattle.ddf_array.specs.Rows.{data_by}
 use Rattle.ddf_array.specs.Sources.{other_positions}
 use Rattle.ddf_array.proofs.Ranges.{range-around}
-use Rattle.ddf_array.proofs.Losses.{at_front}
 use Rattle.ddf_array.proofs.RowParity.{around_by}
-use Rattle.ddf_cells.proofs.Lists.{in_both, in_range}
-use Rattle.ddf_data_array.proofs.Ranges.{to_back}
+use Rattle.ddf_array.proofs.RowSums.{long_zeros, others_are}
+use Rattle.ddf_cells.proofs.Lists.{in_range}
 
 -- ---- sums have 512 bytes
-
-pub long_zeros : length zeros ≡ 512
-unfolding zeros
-long_zeros = let none : ℕ = 0 in length-replicate 512 none
 
 pub long_sum : (cell : ℕ → List ℕ) → ((q : ℕ) → length (cell q) ≡ 512) → (positions : List ℕ) → length (xor_all (map cell positions)) ≡ 512
 long_sum cell long [] = long_zeros
@@ -35,24 +30,6 @@ long_sum cell long (q ∷ positions) =
     ap length (xor_all_first (cell q) (map cell positions)) ∙ length-zip2 bit_xor (cell q) (xor_all (map cell positions)) (one ∙ sym rest) ∙ one
 
 -- ---- a range but for one
-
-pub not_in : (position first count : ℕ) → ((k : ℕ) → first ≤ k → k < first + count → k ≢ position) → filter (λ other. not (other == position)) (range_with_len first count) ≡ range_with_len first count
-not_in position first zero apart = refl
-not_in position first (suc count) apart =
-    ap (λ b. if not b then first ∷ filter (λ other. not (other == position)) (range_with_len (first + 1) count) else filter (λ other. not (other == position)) (range_with_len (first + 1) count))
-    (ne_eqb first position (apart first (omega arith) (omega arith)))
-    ∙ ap (λ l. first ∷ l) (not_in position (first + 1) count (λ k low high. apart k (omega arith) (omega arith)))
-
-pub others_are : (members position : ℕ) → position < members → other_positions members position ≡ range_with_len 0 position ++ range_with_len (position + 1) (members - position - 1)
-others_are members position below =
-    let test : ℕ → Bool = λ other. not (other == position) in
-    let front = range_with_len 0 position in
-    let back = range_with_len (position + 1) (members - position - 1) in
-    ap (filter test) (range-around members position below) ∙ filter-append test front (position ∷ back)
-    ∙ ap (λ l. l ++ filter test (position ∷ back)) (not_in position 0 position (λ k low high same. omega (arith, same, high)))
-    ∙ ap (λ l. front ++ l)
-    (ap (λ b. if not b then position ∷ filter test back else filter test back) (eq-eqb position position refl)
-    ∙ not_in position (position + 1) (members - position - 1) (λ k low high same. omega (arith, same, low)))
 
 map_on : {Y : Type 0} (f g : ℕ → Y) (first n : ℕ) → ((k : ℕ) → first ≤ k → k < first + n → f k ≡ g k) → map f (range_with_len first n) ≡ map g (range_with_len first n)
 map_on f g first zero same = refl
@@ -148,19 +125,14 @@ module _ (cell : ℕ → List ℕ) (long : (q : ℕ) → length (cell q) ≡ 512
 
 -- ---- each position but the parity's holds data
 
-pub range_item : (first n k : ℕ) → k < n → slice_get (range_with_len first n) k ≡ Some (first + k)
-range_item first zero k below = absurd (omega (arith, below))
-range_item first (suc n) zero below = let e : first ≡ first + zero = omega arith in ap Some e
-range_item first (suc n) (suc k) below = let e : first + 1 + k ≡ first + suc k = omega arith in range_item (first + 1) n k (omega (arith, below)) ∙ ap Some e
-
 module _ (members parity q : ℕ) (below : q < members) (other : q ≢ parity) where
   in_front : q < parity → slice_get (before_parity parity) q ≡ Some q
-  in_front less = let e : 0 + q ≡ q = omega arith in range_item 0 parity q less ∙ ap Some e
+  in_front less = let e : 0 + q ≡ q = omega arith in slice_get-range 0 parity q less ∙ ap Some e
 
   in_behind : parity < q → slice_get (after_parity members parity) (q - parity - 1) ≡ Some q
   in_behind more =
       let e : parity + 1 + (q - parity - 1) ≡ q = omega (arith, more) in
-      range_item (parity + 1) (members - 1 - parity) (q - parity - 1) (omega (arith, more, below)) ∙ ap Some e
+      slice_get-range (parity + 1) (members - 1 - parity) (q - parity - 1) (omega (arith, more, below)) ∙ ap Some e
 
   either : {A : Type 0} → (q < parity → A) → (parity < q → A) → A
   either less more = ⊎_elim less (λ most. more (omega (arith, most, other))) (cases_lt q parity)
@@ -169,16 +141,16 @@ module _ (members parity q : ℕ) (below : q < members) (other : q ≢ parity) w
   other_item =
       let count : members - 1 - parity ≡ members - parity - 1 = omega arith in
       let there : (k : ℕ) × (slice_get (before_parity parity ++ after_parity members parity) k ≡ Some q) =
-      either (λ less. (q, at_front (before_parity parity) (after_parity members parity) q q (in_front less))) (λ more. to_back (before_parity parity) (after_parity members parity) (q - parity - 1) q (in_behind more)) in
+      either (λ less. (q, first_get (before_parity parity) (after_parity members parity) q q (in_front less))) (λ more. in_second (before_parity parity) (after_parity members parity) (q - parity - 1) q (in_behind more)) in
       (there.0, ap (λ (n : ℕ). slice_get (range_with_len 0 parity ++ range_with_len (parity + 1) n) there.0) (sym count) ∙ there.1)
 
   data_item : (layout : ParityLayout) → (k : ℕ) × (slice_get (data_around layout members parity) k ≡ Some q)
-  data_item Raid4First = either (λ less. (q, at_front (before_parity parity) (after_parity members parity) q q (in_front less))) (λ more. to_back (before_parity parity) (after_parity members parity) (q - parity - 1) q (in_behind more))
-  data_item Raid4Last = either (λ less. (q, at_front (before_parity parity) (after_parity members parity) q q (in_front less))) (λ more. to_back (before_parity parity) (after_parity members parity) (q - parity - 1) q (in_behind more))
-  data_item Raid5ZeroRestart = either (λ less. (q, at_front (before_parity parity) (after_parity members parity) q q (in_front less))) (λ more. to_back (before_parity parity) (after_parity members parity) (q - parity - 1) q (in_behind more))
-  data_item Raid5LastRestart = either (λ less. (q, at_front (before_parity parity) (after_parity members parity) q q (in_front less))) (λ more. to_back (before_parity parity) (after_parity members parity) (q - parity - 1) q (in_behind more))
+  data_item Raid4First = either (λ less. (q, first_get (before_parity parity) (after_parity members parity) q q (in_front less))) (λ more. in_second (before_parity parity) (after_parity members parity) (q - parity - 1) q (in_behind more))
+  data_item Raid4Last = either (λ less. (q, first_get (before_parity parity) (after_parity members parity) q q (in_front less))) (λ more. in_second (before_parity parity) (after_parity members parity) (q - parity - 1) q (in_behind more))
+  data_item Raid5ZeroRestart = either (λ less. (q, first_get (before_parity parity) (after_parity members parity) q q (in_front less))) (λ more. in_second (before_parity parity) (after_parity members parity) (q - parity - 1) q (in_behind more))
+  data_item Raid5LastRestart = either (λ less. (q, first_get (before_parity parity) (after_parity members parity) q q (in_front less))) (λ more. in_second (before_parity parity) (after_parity members parity) (q - parity - 1) q (in_behind more))
   data_item Raid5LastContinuation =
-      either (λ less. to_back (after_parity members parity) (before_parity parity) q q (in_front less)) (λ more. (q - parity - 1, at_front (after_parity members parity) (before_parity parity) (q - parity - 1) q (in_behind more)))
+      either (λ less. in_second (after_parity members parity) (before_parity parity) q q (in_front less)) (λ more. (q - parity - 1, first_get (after_parity members parity) (before_parity parity) (q - parity - 1) q (in_behind more)))
 
   pub data_at : (layout : Layout) (number : ℕ) → parity_by layout members number ≡ Some parity → (k : ℕ) × (slice_get (data_by layout members number) k ≡ Some q)
   data_at layout number e =
@@ -198,7 +170,7 @@ module _ (members parity : ℕ) (below : parity < members) where
   behind_data k x e = let bounds = in_range (parity + 1) (members - 1 - parity) k x e in ((λ same. omega (arith, same, bounds.0)), omega (arith, bounds.1, bounds.0))
 
   in_order : (k x : ℕ) → slice_get (before_parity parity ++ after_parity members parity) k ≡ Some x → IsData x
-  in_order k x e = ⊎_elim (λ front. front_data front.0 x front.1) (λ back. behind_data back.0 x back.1) (in_both (before_parity parity) (after_parity members parity) k x e)
+  in_order k x e = ⊎_elim (λ front. front_data front.0 x front.1) (λ back. behind_data back.0 x back.1) (in_either (before_parity parity) (after_parity members parity) k x e)
 
   is_data_around : (layout : ParityLayout) (k x : ℕ) → slice_get (data_around layout members parity) k ≡ Some x → IsData x
   is_data_around Raid4First k x e = in_order k x e
@@ -206,7 +178,7 @@ module _ (members parity : ℕ) (below : parity < members) where
   is_data_around Raid5ZeroRestart k x e = in_order k x e
   is_data_around Raid5LastRestart k x e = in_order k x e
   is_data_around Raid5LastContinuation k x e =
-      ⊎_elim (λ front. behind_data front.0 x front.1) (λ back. front_data back.0 x back.1) (in_both (after_parity members parity) (before_parity parity) k x e)
+      ⊎_elim (λ front. behind_data front.0 x front.1) (λ back. front_data back.0 x back.1) (in_either (after_parity members parity) (before_parity parity) k x e)
 
   pub is_data : (layout : Layout) (number k x : ℕ) → parity_by layout members number ≡ Some parity → slice_get (data_by layout members number) k ≡ Some x → (x ≢ parity) × (x < members)
   is_data layout number k x is e =

@@ -2,6 +2,8 @@
 use Rattle.std.proofs.Common.{◌≡◌, ◌∙◌, ◌⊎◌, ⊎_elim, ℕ, ◌+◌, ◌-◌, ◌<◌, ◌≤◌, Bool, true, false, not, List, [], ◌∷◌, ◌++◌, Option, Some, None, refl, sym, ap, subst, arith, map, length, slice_get, ◌&&◌}
 use Rattle.std.specs.Prelude.{nat_le, nat_lt, option_map, if◌then◌else◌}
 use Rattle.std.proofs.lemmas.Bool.{le-leb, leb-true, lt-ltb, ltb-true}
+use Rattle.ddf_lemmas.proofs.Lists.{first_get, get_last, in_map}
+use Rattle.ddf_lemmas.proofs.Tests.{and_first, and_second, true_false}
 use Rattle.ddf_bay.specs.Sectors.{Image}
 use Rattle.ddf_array.specs.Apart.{IsApart}
 use Rattle.ddf_array.specs.declared.site.Site.{Site}
@@ -9,9 +11,6 @@ use Rattle.ddf_array.specs.Volume.{Volume, IsVolume}
 use Rattle.ddf_array.specs.Sources.{Source, copy, copies, every_source, sources}
 use Rattle.ddf_array.specs.Values.{bytes_at, given}
 use Rattle.ddf_array.specs.Sound.{AreSectors, IsSound}
-use Rattle.ddf_array.proofs.Bools.{and_first, and_second}
-use Rattle.ddf_array.proofs.Losses.{at_front}
-use Rattle.ddf_cells.proofs.Lists.{in_map}
 use Rattle.ddf_write.specs.Writing.{HasWritten, IsLeftByWrite}
 use Rattle.ddf_write.proofs.WriteLeaves.{cell_old_or_new, cell_stays}
 use Rattle.ddf_data_array.specs.Allowed.{Allowed, May, any_bytes, is_in, new_bytes, while_written, once_written}
@@ -21,9 +20,6 @@ use Rattle.ddf_data_array.proofs.From.{IsFrom, copy_from, copy_to, source_of}
 use Rattle.ddf_data_array.proofs.Consistent.{copy_reads}
 use Rattle.ddf_data_array.proofs.Plain.{plain_copy, plain_sound}
 use Rattle.ddf_data_array.proofs.RowsKept.{writable_rows}
-
-true_false : (b : Bool) → b ≡ true → b ≡ false → ⊥
-true_false b a c = cc
 
 -- ---- blocks of a range
 
@@ -39,17 +35,13 @@ in_high start count block e = ltb-true block (start + count) (and_second (nat_le
 
 -- ---- bytes that a block may have
 
-at_end : {X : Type 0} (ys : List X) (x : X) → slice_get (ys ++ x ∷ []) (length ys) ≡ Some x
-at_end [] x = refl
-at_end (y ∷ ys) x = at_end ys x
-
-may_old : (o : Option (List (List ℕ))) (new bytes : List ℕ) → May o bytes → May (option_map (λ old. old ++ new ∷ []) o) bytes
+pub may_old : (o : Option (List (List ℕ))) (new bytes : List ℕ) → May o bytes → May (option_map (λ old. old ++ new ∷ []) o) bytes
 may_old None new bytes may = tt
-may_old (Some old) new bytes may = (may.0, at_front old (new ∷ []) may.0 bytes may.1)
+may_old (Some old) new bytes may = (may.0, first_get old (new ∷ []) may.0 bytes may.1)
 
 may_new : (o : Option (List (List ℕ))) (new : List ℕ) → May (option_map (λ old. old ++ new ∷ []) o) new
 may_new None new = tt
-may_new (Some old) new = (length old, at_end old new)
+may_new (Some old) new = (length old, get_last old new)
 
 module _ (allowed : Allowed) (start : ℕ) (sectors : List (List ℕ)) (block : ℕ) where
   pub old_while : (bytes : List ℕ) → May (allowed block) bytes → May (while_written allowed start sectors block) bytes

@@ -1,9 +1,9 @@
 -- What a command on the blocks of an array isn't refused for: so the array is within its level, and no element of it that keeps parity lacks a position.
 use Rattle.std.proofs.Common.{◌≡◌, ◌⊎◌, ◌∙◌, inl, inr, ⊎_elim, ℕ, Bool, true, false, not, List, [], ◌∷◌, ◌++◌, Option, Some, None, Result, Ok, refl, ap, sym, subst, if◌then◌else◌}
-use Rattle.std.specs.Option.{option_and_then, option_or}
-use Rattle.std.specs.Prelude.{option_map, option_to_list}
+use Rattle.std.specs.Option.{option_or}
+use Rattle.std.specs.Prelude.{option_to_list}
 use Rattle.std.specs.Map.{lookup}
-use Rattle.ddf_config.specs.declared.array.Array.{Array}
+use Rattle.std.proofs.lemmas.Bool.{not-false}
 use Rattle.ddf_config.specs.declared.refusal.Refusal.{Refusal}
 use Rattle.ddf_config.specs.declared.refusal.Refusal.TheVariants.{Held, Lost, Range, Shape}
 use Rattle.ddf_config.specs.declared.seat.Seat.{Seat}
@@ -19,12 +19,12 @@ use Rattle.ddf_config.proofs.Firsts.{all_pass, first_append}
 use Rattle.ddf_plan.specs.declared.change.Change.{Change}
 use Rattle.ddf_plan.specs.declared.change.Change.TheVariants.{Mark}
 use Rattle.ddf_plan.specs.Changes.{changed_at}
+use Rattle.ddf_plan.proofs.Made.{not_refused}
 use Rattle.ddf_array.specs.Viewing.{is_array_redundant, is_array_within, view_of}
 use Rattle.ddf_array.specs.Volume.{Volume}
 use Rattle.ddf_array.specs.Within.{is_redundant, is_within}
 use Rattle.ddf_array.proofs.Told.{told_redundant, told_within}
 use Rattle.ddf_array.proofs.Viewed.{has_view as view_there}
-use Rattle.ddf_read.specs.declared.fault.VolumeFault.{VolumeFault}
 use Rattle.ddf_read.specs.declared.fault.VolumeFault.TheVariants as volumes
 use Rattle.ddf_cells.specs.Degraded.{is_degraded}
 use Rattle.ddf_resync.specs.Resyncing.{resync_refusal}
@@ -33,13 +33,14 @@ use Rattle.ddf_seats.specs.Group.{GroupValue}
 use Rattle.ddf_recovery.specs.Ready.{readied}
 use Rattle.ddf_recovery.specs.Recovery.{config_recovered}
 use Rattle.ddf_steps.specs.Steps.{Step}
+use Rattle.ddf_resync.proofs.Resynced.{not_refused as refused_none}
 use Rattle.ddf_answer.specs.declared.failure.Failure.{Failure}
 use Rattle.ddf_group_commands.specs.Change.{steps_asked}
 use Rattle.ddf_group_commands.proofs.Outcomes.{asked_of as readied_of}
 use Rattle.ddf_read_commands.specs.declared.using.Access.{Access}
-use Rattle.ddf_request.specs.Named.{with_array}
 use Rattle.ddf_request.specs.Usable.{bad_blocks, useless}
 use Rattle.ddf_read_commands.specs.Use.{array_refusals, is_forbidden, is_out_of_range}
+use Rattle.ddf_read_commands.proofs.ArrayUse.{none_of_three}
 use Rattle.ddf_write_commands.specs.Around.{marking}
 use Rattle.ddf_write_commands.specs.Planned.{Entry, IsPlanned, Refusing, asked_of, lacks_position, request_around, unless_refused}
 use Rattle.ddf_write_commands.proofs.Marked.{marked_view, refusal_same, with_mark}
@@ -84,14 +85,6 @@ mark_is entry change = by (is_array_redundant entry.1) refl
 
 -- ---- what isn't refused
 
-pub not_refused : (b : Bool) (refusal : Refusal) → refuse_if b refusal ≡ None → b ≡ false
-not_refused true refusal e = absurd cc
-not_refused false refusal e = refl
-
-not_not : (b : Bool) → not b ≡ false → b ≡ true
-not_not true e = refl
-not_not false e = absurd cc
-
 -- the first of several causes
 pub front_passes : (xs ys : List (Option Refusal)) → first_refusal (xs ++ ys) ≡ None → first_refusal xs ≡ None
 front_passes xs ys none = by (first_refusal xs) refl (sym (first_append xs ys) ∙ none)
@@ -100,12 +93,8 @@ front_passes xs ys none = by (first_refusal xs) refl (sym (first_append xs ys) �
     by None is e = refl
     by (Some refusal) is e = absurd cc
 
--- the same behind some
-pub next_passes : (xs : List (Option Refusal)) (x : Option Refusal) (ys : List (Option Refusal)) → first_refusal (xs ++ x ∷ ys) ≡ None → x ≡ None
-next_passes xs x ys none = all_pass xs x ys none
-
 both_pass : (xs : List (Option Refusal)) (x y : Option Refusal) (ys : List (Option Refusal)) → first_refusal (xs ++ x ∷ y ∷ ys) ≡ None → y ≡ None
-both_pass [] None y ys none = next_passes [] y ys none
+both_pass [] None y ys none = all_pass [] y ys none
 both_pass [] (Some refusal) y ys none = absurd cc
 both_pass (None ∷ xs) x y ys none = both_pass xs x y ys none
 both_pass (Some refusal ∷ xs) x y ys none = absurd cc
@@ -121,7 +110,7 @@ pub two_pass : (xs : List (Option Refusal)) (a b : Bool) (one other : Refusal) �
     → (first_refusal xs ≡ None) × (a ≡ true) × (b ≡ false)
 two_pass xs a b one other none = (
   front_passes xs (refuse_if (not a) one ∷ refuse_if b other ∷ []) none,
-  not_not a (not_refused (not a) one (next_passes xs (refuse_if (not a) one) (refuse_if b other ∷ []) none)),
+  not-false a (not_refused (not a) one (all_pass xs (refuse_if (not a) one) (refuse_if b other ∷ []) none)),
   not_refused b other (both_pass xs (refuse_if (not a) one) (refuse_if b other) [] none),
 )
 
@@ -130,30 +119,12 @@ pub three_pass : (xs : List (Option Refusal)) (a b c : Bool) (one other third : 
     → (first_refusal xs ≡ None) × (a ≡ true) × (b ≡ false) × (c ≡ false)
 three_pass xs a b c one other third none = (
   front_passes xs (refuse_if (not a) one ∷ refuse_if b other ∷ refuse_if c third ∷ []) none,
-  not_not a (not_refused (not a) one (next_passes xs (refuse_if (not a) one) (refuse_if b other ∷ refuse_if c third ∷ []) none)),
+  not-false a (not_refused (not a) one (all_pass xs (refuse_if (not a) one) (refuse_if b other ∷ refuse_if c third ∷ []) none)),
   not_refused b other (both_pass xs (refuse_if (not a) one) (refuse_if b other) (refuse_if c third ∷ []) none),
   not_refused c third (third_passes xs (refuse_if (not a) one) (refuse_if b other) (refuse_if c third) [] none),
 )
 
 -- ---- the array that a word names
-
-named_by : (arrays : List (List ℕ × Array)) (guid : List ℕ) (entry : Entry) (found : Option Array) → lookup (same_guid guid) arrays ≡ found → option_map (λ array. (guid, array)) found ≡ Some entry
-    → lookup (same_guid entry.0) arrays ≡ Some entry.1
-named_by arrays guid entry None is e = absurd cc
-named_by arrays guid entry (Some array) is e =
-    let same : (guid, array) ≡ entry = cc in
-    subst (λ (one : Entry). lookup (same_guid one.0) arrays ≡ Some one.1) same is
-
-named_in : (arrays : List (List ℕ × Array)) (entry : Entry) (guid : Option (List ℕ)) → option_and_then (with_array arrays) guid ≡ Some entry → lookup (same_guid entry.0) arrays ≡ Some entry.1
-named_in arrays entry None e = absurd cc
-named_in arrays entry (Some guid) e = named_by arrays guid entry (lookup (same_guid guid) arrays) refl e
-
--- It is the one of its GUID.
-none_of_three : (a b c : Option Refusal) → first_refusal (a ∷ b ∷ []) ≡ None → c ≡ None → first_refusal (a ∷ b ∷ c ∷ []) ≡ None
-none_of_three (Some x) b c two one = absurd cc
-none_of_three None (Some x) c two one = absurd cc
-none_of_three None None (Some x) two one = absurd cc
-none_of_three None None None two one = refl
 
 -- One whose blocks nothing of its records refuses has a view.
 viewable : (access : Access) (config : Configuration) (seats : List Seat) (start count : ℕ) (entry : Entry) → first_refusal (array_refusals access config seats entry.0 entry.1 start count) ≡ None
@@ -162,8 +133,8 @@ viewable access config seats start count entry accepted there =
     let out : Option Refusal = refuse_if (is_out_of_range entry.1 start count) (Range (array_capacity entry.1)) in
     let unknown : Option Refusal = refuse_if (not (is_complete entry.1)) Lost in
     let forbidden : Option Refusal = refuse_if (is_forbidden access entry.1) Held in
-    let first : useless config seats entry.0 entry.1 ≡ None = next_passes [] (useless config seats entry.0 entry.1) (out ∷ bad_blocks seats entry.1 ∷ forbidden ∷ unknown ∷ []) accepted in
-    let last : refuse_if (not (is_complete entry.1)) Lost ≡ None = next_passes (useless config seats entry.0 entry.1 ∷ out ∷ bad_blocks seats entry.1 ∷ forbidden ∷ []) unknown [] accepted in
+    let first : useless config seats entry.0 entry.1 ≡ None = all_pass [] (useless config seats entry.0 entry.1) (out ∷ bad_blocks seats entry.1 ∷ forbidden ∷ unknown ∷ []) accepted in
+    let last : refuse_if (not (is_complete entry.1)) Lost ≡ None = all_pass (useless config seats entry.0 entry.1 ∷ out ∷ bad_blocks seats entry.1 ∷ forbidden ∷ []) unknown [] accepted in
     view_there config entry.0 seats entry.1 there
     (none_of_three (unserved_level entry.0 entry.1) (refuse_if (not (is_served_on config.members seats (extents config.arrays) entry.1)) Shape) unknown first last)
 
@@ -191,15 +162,6 @@ none_refused : (v : Volume) → is_within v ≡ true → is_degraded v ≡ false
 none_refused v within whole =
     ap (λ (b : Bool). if not b then Some volumes.Lost else (if is_degraded v then Some volumes.Unsure else None)) within
     ∙ ap (λ (b : Bool). if b then Some volumes.Unsure else None) whole
-
-refused_none : (v : Volume) → resync_refusal v ≡ None → (is_within v ≡ true) × (is_degraded v ≡ false)
-refused_none v none = by (is_within v) (is_degraded v) refl refl none
-  where
-    by : (a b : Bool) → is_within v ≡ a → is_degraded v ≡ b → ◌≡◌ {A = Option VolumeFault} (if not a then Some volumes.Lost else (if b then Some volumes.Unsure else None)) None
-        → (is_within v ≡ true) × (is_degraded v ≡ false)
-    by true true x y e = absurd cc
-    by true false x y e = (x, y)
-    by false b x y e = absurd cc
 
 -- so once it is marked
 pub record IsReadied (v : Volume) : Type 0 where

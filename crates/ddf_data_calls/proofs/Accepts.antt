@@ -4,6 +4,8 @@ use Rattle.std.proofs.Math.Path.{fun_ext}
 use Rattle.std.proofs.lemmas.Option.{slice_get_within}
 use Rattle.std.specs.Prelude.{option_map, option_to_list, slice_get}
 use Rattle.std.specs.Map.{lookup}
+use Rattle.ddf_lemmas.proofs.Lists.{in_map}
+use Rattle.ddf_lemmas.proofs.Options.{some_is}
 use Rattle.ddf_bay.specs.Sectors.{Image, IsLeft}
 use Rattle.ddf_bay.specs.State.{BayState}
 use Rattle.ddf_config.specs.declared.array.Array.{Array}
@@ -35,7 +37,6 @@ use Rattle.ddf_data_group.specs.Over.{IsOver, absent_in}
 use Rattle.ddf_data_group.proofs.Clearly.{IsUsed, used}
 use Rattle.ddf_data_group.proofs.Cleared.{over_before}
 use Rattle.ddf_data_group.proofs.Entries.{guid_is}
-use Rattle.ddf_rewrite.proofs.Lists.{map_get}
 use Rattle.ddf_history.specs.Groups.{Disk, groups, has_current}
 use Rattle.ddf_history.specs.Issued.{Past}
 use Rattle.ddf_steps.specs.Committed.{AreSettled, slots_of}
@@ -52,11 +53,12 @@ use Rattle.ddf_data_history.specs.Promised.{KeepsData, seats_in}
 use Rattle.ddf_data_disks.specs.Seats.{AreAlikeSeats}
 use Rattle.ddf_data_disks.proofs.Alike.{view_same}
 use Rattle.ddf_group.specs.declared.answer.Assembly.{Assembly}
-use Rattle.ddf_answer.specs.declared.failure.Failure.{Failure}
+use Rattle.ddf_data_history.proofs.Viewed.{over_unique}
 use Rattle.ddf_answer.specs.Call.{work_of}
 use Rattle.ddf_group_commands.specs.Change.{HasChanged, IsChangedIn, Request, steps_asked, steps_of}
 use Rattle.ddf_group_commands.specs.Written.{AreWritten}
 use Rattle.ddf_group_commands.proofs.Outcomes.{asked_of}
+use Rattle.ddf_rebuild_command.proofs.BackCame.{steps_same}
 use Rattle.ddf_data_calls.specs.Calls.{AdmitsCall, AreBoth}
 use Rattle.ddf_data_calls.specs.Agreed.{DoDisksAgree}
 use Rattle.ddf_data_calls.specs.Promised.{counted}
@@ -64,13 +66,9 @@ use Rattle.ddf_data_calls.proofs.Counted.{was_before}
 use Rattle.ddf_data_calls.proofs.First as start
 use Rattle.ddf_data_calls.proofs.First.{IsCalled}
 use Rattle.ddf_data_calls.proofs.Known.{found_few, known, recovered_few}
-use Rattle.ddf_data_calls.proofs.OneArray.{over_one}
 use Rattle.ddf_data_calls.proofs.Split as split
 use Rattle.ddf_data_calls.proofs.Standing as standing
 use Rattle.ddf_data_calls.proofs.Standing.{kept_current}
-
-some_is : {X : Type 0} {a b : X} → Some a ≡ Some b → a ≡ b
-some_is e = cc
 
 module _ {D : Type 0} (group : List ℕ) (old new : BayState D) (past : Past (groups group)) (floor : ℕ → ℕ) (promises : Promises) (left : List Bool) (newest : List (Option Newest)) (named : Option (List ℕ)) (found : GroupValue)
     (called : IsCalled group old past floor promises left newest named found) (timestamp : ℕ) (guid : List ℕ) (init : ℕ) (steps : List Step) (are : readied found (Unmark guid init ∷ []) timestamp ≡ Ok steps)
@@ -114,7 +112,7 @@ module _ {D : Type 0} (group : List ℕ) (old new : BayState D) (past : Past (gr
       let on = start.cells_on group old past floor promises left newest named found called (config_recovered found) guid v agree.is_view known_view slot lba
       (record { element = element; position = position; sector = sector; lies = lies }) in
       let placed = slot_placed (slots_of found.seats) slot on.0 in
-      let seat = map_get (λ (each : Seat). each.slot) found.seats placed.0 slot placed.1 in
+      let seat = in_map (λ (each : Seat). each.slot) found.seats placed.0 slot placed.1 in
       let sure = settled placed.0 seat.0 (slice_get_within found.seats placed.0 seat.0 seat.1) seat.1 in
       let same : image slot lba ≡ new.held slot lba = subst (λ (s : ℕ). image s lba ≡ new.held s lba) seat.2 (sure lba (image seat.0.slot lba) (is_left seat.0.slot lba)) in
       sym (start.floored_first group old past floor promises left newest named found called timestamp (Some (Unmark guid init)) [] steps [] are are_all slot lba new.held written on.1) ∙ sym same
@@ -184,7 +182,7 @@ module _ {D : Type 0} (group : List ℕ) (old new : BayState D) (past : Past (gr
         let one : (use_of).array ≡ from.before = some_is (sym (use_of).is_found ∙ from.is_before) in
         let before_v : IsOver listed from.before v = subst (λ (a : Array). IsOver listed a v) one (use_of).over in
         let before_w : IsOver listed from.before (with_mark (is_marked from.before) w) = over_before listed from.before after from.same w over_w in
-        let same : v ≡ with_mark (is_marked from.before) w = over_one listed from.before v (with_mark (is_marked from.before) w) before_v before_w in
+        let same : v ≡ with_mark (is_marked from.before) w = over_unique listed from.before v (with_mark (is_marked from.before) w) before_v before_w in
         subst (λ (x : Volume). IsKeptData (absent_in (between).members listed after.elements) x image (once_consistent v new.held)) (ap (with_mark w.marked) same)
         (kept_by w.marked (absent_in (between).members listed after.elements) image is_left)
 
@@ -225,9 +223,6 @@ record IsDoneBy {D : Type 0} (old new : BayState D) (found : GroupValue) (steps 
   pub written : AreWritten old.sizes old.held steps new.held
   pub settled : AreSettled new found.seats (length found.seats)
 
-same_steps : (one other : List Step) → ◌≡◌ {A = Result (List Step) Failure} (Ok one) (Ok other) → one ≡ other
-same_steps one other e = cc
-
 module _ {D : Type 0} (tells : Type 0) (told : tells) (old new : BayState D) (group : List ℕ) (past : Past (groups group)) (floor : ℕ → ℕ) (small : (slot : ℕ) → floor slot < 2 ^ 64) (promises : Promises)
     (named : Option (List ℕ)) (timestamp : ℕ) (request : Request) (sequence : ℕ) (changed : HasChanged (work_of tells old new) named timestamp request (Ok sequence))
     (found : GroupValue) (is_found : group_of changed.taken.newest named ≡ Ok found) (own : found.config.group ≡ group) (steps : List Step) (are_asked : steps_of found timestamp request ≡ Ok steps)
@@ -236,7 +231,7 @@ module _ {D : Type 0} (tells : Type 0) (told : tells) (old new : BayState D) (gr
   done_by : IsDoneBy old new found steps
   done_by =
       let is = subst (λ (meaning : Result GroupValue Assembly). IsChangedIn (work_of tells old new) timestamp request meaning (Ok sequence)) is_found changed.gives in
-      let same : is.steps ≡ steps = same_steps is.steps steps (sym is.are_asked ∙ are_asked) in
+      let same : is.steps ≡ steps = steps_same is.steps steps (sym is.are_asked ∙ are_asked) in
       record { written = subst (λ (all : List Step). AreWritten old.sizes old.held all new.held) same (is.are_written told); settled = is.are_settled told }
 
   are_readied : readied found (Unmark guid init ∷ []) timestamp ≡ Ok steps

@@ -7,12 +7,12 @@ use Rattle.ddf_array.specs.Sound.{AreSectors}
 use Rattle.ddf_array.specs.Viewing.{view_of}
 use Rattle.ddf_array.specs.Volume.{IsVolume, Volume}
 use Rattle.ddf_cells.specs.Alike.{AreAlike}
+use Rattle.ddf_rebuild.proofs.Aiming.{cell_lies}
 use Rattle.ddf_data_array.specs.Allowed.{Allowed}
 use Rattle.ddf_data_array.specs.Changing.{IsWritable}
 use Rattle.ddf_data_array.specs.Kept.{IsKeptData}
 use Rattle.ddf_data_group.specs.Clear.{ChangesItsCells, IsItsCell}
 use Rattle.ddf_data_group.specs.Grouped.{Promises}
-use Rattle.ddf_data_group.proofs.Clearly.{lies_of}
 use Rattle.ddf_history.specs.Groups.{groups}
 use Rattle.ddf_history.specs.Issued.{IsSince, Past}
 use Rattle.ddf_data_history.specs.Promised.{IsAlone, KeepsData, seats_in}
@@ -30,12 +30,12 @@ module _ (carrying : Carrying) (group : List ℕ) (floor : ℕ → ℕ) (small :
   -- what the disks held, as far as it is of the array
   was_alike : (image : Image) → AreAlike v old.held (was old floor here image)
   was_alike image slot lba cell =
-      let on = cells_on slot lba (record { element = cell.element; position = cell.position; sector = cell.sector; lies = lies_of v slot lba cell }) in
+      let on = cells_on slot lba (record { element = cell.element; position = cell.position; sector = cell.sector; lies = cell_lies v slot lba cell }) in
       sym (was_held old floor here image slot lba on.0)
 
   now_alike : (image : Image) → AreAlike v image (now old floor here image)
   now_alike image slot lba cell =
-      let on = cells_on slot lba (record { element = cell.element; position = cell.position; sector = cell.sector; lies = lies_of v slot lba cell }) in
+      let on = cells_on slot lba (record { element = cell.element; position = cell.position; sector = cell.sector; lies = cell_lies v slot lba cell }) in
       now_below old floor here image slot lba on.1
 
   module _ (image : Image) (are : AreSectors image) (beside : (s l : ℕ) → here s ≡ false → l < floor s → old.may_hold s l (image s l))

@@ -1,6 +1,7 @@
 -- Calls that write slots of other disks alone keep the data of a group.
 use Rattle.std.proofs.Common.{◌≡◌, ℕ, ◌<◌, ◌^◌, Bool, true, false, not, List, Some, refl, if◌then◌else◌}
 use Rattle.std.specs.Map.{lookup}
+use Rattle.ddf_lemmas.proofs.Tests.{and_second}
 use Rattle.ddf_bay.specs.Sectors.{Image, IsLeft}
 use Rattle.ddf_bay.specs.State.{BayState}
 use Rattle.ddf_config.specs.declared.array.Array.{Array}
@@ -8,7 +9,6 @@ use Rattle.ddf_config.specs.Configuration.{Configuration}
 use Rattle.ddf_config.specs.Members.{same_guid}
 use Rattle.ddf_array.specs.Sound.{AreSectors}
 use Rattle.ddf_array.specs.Volume.{Volume}
-use Rattle.ddf_array.proofs.Bools.{and_second}
 use Rattle.ddf_data_array.specs.Rows.{AreAlikeThroughout}
 use Rattle.ddf_data_group.specs.Grouped.{Promises}
 use Rattle.ddf_data_group.specs.Over.{IsOver}

@@ -2,6 +2,7 @@
 use Rattle.std.proofs.Common.{◌≡◌, ◌∙◌, ◌⊎◌, inl, inr, ⊎_elim, ℕ, ◌+◌, ◌<◌, ◌≤◌, Bool, true, false, List, [], ◌∷◌, ◌++◌, length, Option, Some, None, Ok, refl, ap, sym, subst, arith}
 use Rattle.std.specs.Prelude.{is_some, slice_get}
 use Rattle.std.specs.Map.{lookup}
+use Rattle.ddf_lemmas.proofs.Options.{some_is}
 use Rattle.ddf_bay.specs.Sectors.{Image, IsLeft}
 use Rattle.ddf_bay.specs.State.{BayState}
 use Rattle.ddf_primary.specs.Cells.{depth_of}
@@ -38,23 +39,25 @@ use Rattle.ddf_data_group.specs.Clear.{IsItsCell}
 use Rattle.ddf_data_group.specs.Clearing.{MayMove}
 use Rattle.ddf_data_group.specs.Grouped.{MayChange, Promises}
 use Rattle.ddf_data_group.specs.Over.{IsOver as IsSeatedOver, absent_in}
-use Rattle.ddf_data_group.proofs.Clearly.{IsUsed, below_floor, lies_of, used}
+use Rattle.ddf_data_group.proofs.Clearly.{IsUsed, below_floor, used}
 use Rattle.ddf_data_group.proofs.Free.{never}
 use Rattle.ddf_data_group.proofs.Lessened.{slot_ends}
 use Rattle.ddf_data_group.proofs.Parts.{of_part}
 use Rattle.ddf_data_group.proofs.Readied.{none_absent}
 use Rattle.ddf_history.specs.Groups.{Disk, groups, has_current}
-use Rattle.ddf_history.specs.Issued.{IsSince, Past, issue}
+use Rattle.ddf_history.specs.Issued.{IsSince, Past}
 use Rattle.ddf_seats.specs.Group.{GroupValue}
 use Rattle.ddf_steps.specs.Committed.{slots_of}
 use Rattle.ddf_recovery.specs.Recovery.{config_recovered}
 use Rattle.ddf_steps.specs.Steps.{config_after}
+use Rattle.ddf_rebuild.proofs.Aiming.{cell_lies}
 use Rattle.ddf_history_steps.specs.Going.{Goes, IsOver, changes_in, issue_all}
 use Rattle.ddf_history_steps.specs.Kept.{is_read, is_slot}
+use Rattle.ddf_history_steps.proofs.Recovering.{acked_still}
 use Rattle.ddf_data_history.specs.Promised.{AreAlone, IsAlone, KeepsData, is_seat, seats_in}
 use Rattle.ddf_data_history.proofs.Seats.{is_at}
 use Rattle.ddf_data_history.proofs.Steps.{by_acknowledge, by_records}
-use Rattle.ddf_data_history.proofs.Viewed.{are_members}
+use Rattle.ddf_data_history.proofs.Viewed.{are_members, over_unique}
 use Rattle.ddf_data_disks.specs.Seats.{AreAlikeSeats}
 use Rattle.ddf_answer.specs.Call.{work_of}
 use Rattle.ddf_request.specs.Slots.{reference_on}
@@ -76,23 +79,10 @@ use Rattle.ddf_data_calls.proofs.First as opening
 use Rattle.ddf_data_calls.proofs.First.{IsCalled}
 use Rattle.ddf_data_calls.proofs.Issued.{all_keep}
 use Rattle.ddf_data_calls.proofs.OneArray as one
-use Rattle.ddf_data_calls.proofs.OneArray.{over_one}
 use Rattle.ddf_data_calls.proofs.Split as split
 use Rattle.ddf_data_calls.proofs.Standing as standing
-
-true_false : {A : Type 0} (b : Bool) → b ≡ true → b ≡ false → A
-true_false b x y = absurd cc
-
-some_is : {X : Type 0} {a b : X} → Some a ≡ Some b → a ≡ b
-some_is e = cc
-
-none_some : {A X : Type 0} (o : Option X) (x : X) → o ≡ None → o ≡ Some x → A
-none_some o x a b = absurd cc
-
--- what was acknowledged stays so while changes are issued
-same_acked : (group : List ℕ) (past : Past (groups group)) (changes : List Configuration) → (issue_all group past changes).changes.acked ≡ past.changes.acked
-same_acked group past [] = refl
-same_acked group past (next ∷ others) = same_acked group (issue past next) others
+use Rattle.ddf_data_calls.proofs.Begins.{none_some}
+use Rattle.ddf_data_calls.proofs.Filling.{true_false}
 
 module _ {D : Type 0} (group : List ℕ) (old new : BayState D) (past : Past (groups group)) (floor : ℕ → ℕ) (promises : Promises) (left : List Bool) (newest : List (Option Newest)) (named : Option (List ℕ)) (found : GroupValue)
     (called : IsCalled group old past floor promises left newest named found) (tells : Type 0) (timestamp : ℕ) (word : List ℕ) (slot : ℕ) (plan : IsBackPlanned old.sizes found timestamp word slot) where
@@ -360,7 +350,7 @@ module _ {D : Type 0} (group : List ℕ) (old new : BayState D) (past : Past (gr
 
       before_alike : AreAlike v at.before image
       before_alike s l cell =
-          let on = cells_on s l (record { element = cell.element; position = cell.position; sector = cell.sector; lies = lies_of v s l cell }) in
+          let on = cells_on s l (record { element = cell.element; position = cell.position; sector = cell.sector; lies = cell_lies v s l cell }) in
           alike_filled old.sizes v e plan.to from plan.aside at.before at.filled (at.is_filled).stays s l cell ∙ sym (held_same s l on.0 on.1)
 
       abbrev lists : List Seat
@@ -400,7 +390,7 @@ module _ {D : Type 0} (group : List ℕ) (old new : BayState D) (past : Past (gr
           let there_own : lookup (same_guid plan.entry.0) (between).arrays ≡ Some array = ap (λ (name : List ℕ). lookup (same_guid name) (between).arrays) (sym same) ∙ there in
           let one_array : (uses).array ≡ array = some_is (sym (uses).is_found ∙ there_own) in
           let its : IsSeatedOver lists array v = subst (λ (a : Array). IsSeatedOver lists a v) one_array (uses).over in
-          subst (λ (x : Volume). MayMove lists array x image e p plan.room.reference plan.room.start) (over_one lists array v w its over_w)
+          subst (λ (x : Volume). MayMove lists array x image e p plan.room.reference plan.room.start) (over_unique lists array v w its over_w)
           (record { slot = plan.to; is_seated = seated_at array one_array; same = holds_the_same allowed (ap promises (sym same) ∙ promised) })
 
       issued_keeps : KeepsData group (issue_all group begin (changes_in found (plan.last ∷ []))) floor image promises
@@ -413,7 +403,7 @@ module _ {D : Type 0} (group : List ℕ) (old new : BayState D) (past : Past (gr
       returning_keeps now (inr is_acked) =
           subst (λ (some : Past (groups group)). KeepsData group some floor image promises) (sym is_acked)
           (by_acknowledge group floor called.small (issue_all group begin (changes_in found (plan.last ∷ []))) image promises issued_keeps (begin.changes.acked + length (changes_in found (plan.last ∷ [])))
-          (let same = same_acked group begin (changes_in found (plan.last ∷ [])) in omega (arith, same)))
+          (let same = acked_still group begin (changes_in found (plan.last ∷ [])) in omega (arith, same)))
 
   -- So they are at each stage.
   pub stage_keeps : new.tells_left → (image : Image) → AreSectors image → (stage : BackStage) (now : Past (groups group)) → HasGone group (work_of tells old new) past left found plan stage now

@@ -4,6 +4,7 @@ use Rattle.std.proofs.lemmas.Bool.{eqb-true, false≢true, le-leb, ltb-false}
 use Rattle.std.specs.Prelude.{find, is_some, nat_le, nat_lt, option_map, slice_get}
 use Rattle.std.specs.List.{list_any}
 use Rattle.std.specs.Map.{lookup}
+use Rattle.ddf_lemmas.proofs.Lists.{mapped_at}
 use Rattle.ddf_bay.specs.State.{BayState}
 use Rattle.ddf_config.specs.declared.array.Array.{Array}
 use Rattle.ddf_config.specs.declared.extent.Extent.{Extent}
@@ -24,7 +25,6 @@ use Rattle.ddf_array.specs.Viewing.{seat_slot}
 use Rattle.ddf_repair.specs.declared.first.Target.{Target}
 use Rattle.ddf_repair.specs.Choose.{array_room, part_room, room_for}
 use Rattle.ddf_repair.proofs.Begins.{free_on}
-use Rattle.ddf_rewrite.proofs.Lists.{get_map}
 use Rattle.ddf_data_group.specs.Grouped.{Promises}
 use Rattle.ddf_history.specs.Groups.{groups}
 use Rattle.ddf_history.specs.Issued.{IsSince, Past}
@@ -34,6 +34,7 @@ use Rattle.ddf_seats.specs.Group.{GroupValue}
 use Rattle.ddf_steps.specs.Committed.{slots_of}
 use Rattle.ddf_steps.specs.Steps.{Step}
 use Rattle.ddf_recovery.specs.Recovery.{config_recovered}
+use Rattle.ddf_data_disks.proofs.Ended.{find_one}
 use Rattle.ddf_request.specs.Slots.{first_beyond, is_on, reference_on}
 use Rattle.ddf_group_commands.specs.Change.{steps_asked as steps_by, steps_of as steps_asked}
 use Rattle.ddf_group_commands.specs.Requests.{linux_members}
@@ -42,7 +43,6 @@ use Rattle.ddf_rebuild_command.specs.Asked.{rebuild_refusals}
 use Rattle.ddf_rebuild_command.specs.GoingBack.{copyback_asked, copyback_refusals, copyback_request, copyback_unless}
 use Rattle.ddf_rebuild_command.proofs.Positions.{element_there}
 use Rattle.ddf_data_calls.proofs.First.{IsCalled}
-use Rattle.ddf_data_calls.proofs.Recovered.{find_one}
 use Rattle.ddf_data_calls.proofs.Seats as seating
 
 -- ---- the room
@@ -164,7 +164,7 @@ module _ {D : Type 0} (group : List ℕ) (old : BayState D) (past : Past (groups
           record {
             same_slot = ap (λ (o : Option Seat). elim o [ None ↦ 64 | Some one ↦ one.slot ]) e ∙ same;
             floor_is = ap (option_map (λ (one : Seat). one.floor)) e ∙ ap Some (its.same_floor ∙ ap floor same);
-            is_here = slot_is (slots_of found.seats) first.place slot (get_map (λ (one : Seat). one.slot) found.seats first.place first.seat first.is_at ∙ ap Some first.on);
+            is_here = slot_is (slots_of found.seats) first.place slot (mapped_at (λ (one : Seat). one.slot) found.seats first.place first.seat first.is_at ∙ ap Some first.on);
           }
 
 -- ---- a slot that isn't refused has a seat

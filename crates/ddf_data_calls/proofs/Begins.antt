@@ -3,6 +3,7 @@ use Rattle.std.proofs.Common.{◌≡◌, ◌∙◌, ⊎_elim, ℕ, true, false, 
 use Rattle.std.proofs.lemmas.Bool.{false≢true}
 use Rattle.std.specs.Prelude.{option_to_list}
 use Rattle.std.specs.Map.{lookup}
+use Rattle.ddf_lemmas.proofs.Options.{some_is}
 use Rattle.ddf_bay.specs.Sectors.{Image}
 use Rattle.ddf_config.specs.declared.array.Array.{Array}
 use Rattle.ddf_config.specs.declared.seat.Seat.{Seat}
@@ -44,11 +45,8 @@ abbrev pub mark_in : List Change → Option Change
 mark_in [] = None
 mark_in (change ∷ changes) = Some change
 
-none_some : {A X : Type 0} (o : Option X) (x : X) → o ≡ None → o ≡ Some x → A
+pub none_some : {A X : Type 0} (o : Option X) (x : X) → o ≡ None → o ≡ Some x → A
 none_some o x a b = absurd cc
-
-some_is : {X : Type 0} {a b : X} → Some a ≡ Some b → a ≡ b
-some_is e = cc
 
 module _ (group : List ℕ) (found : GroupValue) (timestamp : ℕ) (word : List ℕ) (plan : IsPlanned found timestamp word) where
   abbrev config : Configuration

@@ -2,6 +2,7 @@
 use Rattle.std.proofs.Common.{◌≡◌, ◌⊎◌, ◌∙◌, inl, inr, ⊎_elim, ℕ, Bool, true, false, ◌||◌, List, [], ◌∷◌, length, Option, Some, None, Ok, refl, ap, sym, subst, if◌then◌else◌, arith}
 use Rattle.std.specs.Prelude.{is_some, slice_get}
 use Rattle.std.specs.Map.{lookup}
+use Rattle.std.proofs.lemmas.Option.{slice_get_within}
 use Rattle.ddf_bay.specs.Sectors.{Image}
 use Rattle.ddf_config.specs.declared.array.Array.{Array}
 use Rattle.ddf_config.specs.declared.refusal.Refusal.{Refusal}
@@ -26,7 +27,6 @@ use Rattle.ddf_data_group.proofs.Entries.{guid_is}
 use Rattle.ddf_rewrite.proofs.Lists.{some_same}
 use Rattle.ddf_history.specs.Groups.{groups}
 use Rattle.ddf_history.specs.Issued.{IsSince, Past}
-use Rattle.ddf_history.proofs.Lists.{get_within}
 use Rattle.ddf_seats.specs.declared.seated.Seated.{Seated}
 use Rattle.ddf_seats.specs.Group.{GroupValue}
 use Rattle.ddf_recovery.specs.Ready.{readied}
@@ -38,8 +38,9 @@ use Rattle.ddf_steps.specs.Steps.{Step, config_after, raised}
 use Rattle.ddf_recovery.proofs.ReadiedSteps.{are_tried, behind}
 use Rattle.ddf_history_steps.specs.Going.{IsOver as IsDone, changes_in}
 use Rattle.ddf_history_steps.proofs.LastIssued.{over_last, over_length}
+use Rattle.ddf_history_steps.proofs.LastStep.{configs}
 use Rattle.ddf_data_history.specs.Promised.{KeepsData, seats_in, with_promise}
-use Rattle.ddf_data_calls.proofs.Steps.{AreOfChange, configs, issued_are, of_change}
+use Rattle.ddf_data_calls.proofs.Steps.{AreOfChange, issued_are, of_change}
 
 -- ---- fewer promises
 
@@ -87,7 +88,7 @@ pub done_is : (group : List ℕ) (past now : Past (groups group)) (readable : �
     → (number : ℕ) (config : Configuration) → IsSince now.changes number config → slice_get (found.config ∷ changes) (length changes) ≡ Some config
 done_is group past now readable found changes done number config since =
     let long = over_length group past readable found changes now done in
-    let within = get_within now.changes.issued number config since.is_there in
+    let within = slice_get_within now.changes.issued number config since.is_there in
     let late = since.late in
     let at : number ≡ now.changes.acked = omega (arith, long, within, late) in
     sym (over_last group past readable found changes now done) ∙ ap (slice_get now.changes.issued) (sym at) ∙ since.is_there

@@ -1,6 +1,7 @@
 -- A call on the blocks of an array, its first steps, its work and its last step, keeps the data of its group wherever it stops.
-use Rattle.std.proofs.Common.{◌≡◌, ◌⊎◌, ◌∙◌, inl, inr, ⊎_elim, ℕ, ◌+◌, ◌<◌, Bool, true, false, List, [], ◌∷◌, ◌++◌, length, Option, Some, None, Ok, refl, ap, sym, subst, arith, if◌then◌else◌}
+use Rattle.std.proofs.Common.{◌≡◌, ◌⊎◌, ◌∙◌, inl, inr, ⊎_elim, ℕ, ◌+◌, ◌<◌, Bool, true, false, List, ◌∷◌, ◌++◌, length, Option, Some, None, Ok, refl, ap, sym, subst, arith, if◌then◌else◌}
 use Rattle.std.specs.Prelude.{option_map, option_to_list, slice_get}
+use Rattle.ddf_lemmas.proofs.Tests.{true_false}
 use Rattle.ddf_bay.specs.Sectors.{Image, IsLeft}
 use Rattle.ddf_bay.specs.State.{BayState}
 use Rattle.ddf_config.specs.Configuration.{Configuration}
@@ -23,16 +24,17 @@ use Rattle.ddf_data_array.specs.Rows.{AreRowsKept, HasNoRows}
 use Rattle.ddf_data_array.proofs.RowsKept.{no_rows_kept, writable_rows}
 use Rattle.ddf_data_group.specs.Clear.{IsItsCell}
 use Rattle.ddf_data_group.specs.Grouped.{MayChange, Promises}
-use Rattle.ddf_data_group.proofs.Clearly.{lies_of}
 use Rattle.ddf_history.specs.Groups.{Disk, groups, has_current}
-use Rattle.ddf_history.specs.Issued.{IsSince, Past, acknowledge, issue}
+use Rattle.ddf_history.specs.Issued.{IsSince, Past, acknowledge}
 use Rattle.ddf_steps.specs.Committed.{slots_of}
 use Rattle.ddf_seats.specs.Group.{GroupValue}
 use Rattle.ddf_recovery.specs.Ready.{readied}
 use Rattle.ddf_recovery.specs.Recovery.{config_recovered}
 use Rattle.ddf_steps.specs.Steps.{Step, config_after}
+use Rattle.ddf_rebuild.proofs.Aiming.{cell_lies}
 use Rattle.ddf_history_steps.specs.Going.{Goes, IsOver, begun, changes_in, issue_all}
 use Rattle.ddf_history_steps.specs.Kept.{is_read, is_slot}
+use Rattle.ddf_history_steps.proofs.Recovering.{acked_still}
 use Rattle.ddf_data_history.specs.Promised.{AreAlone, IsAlone, KeepsData, seats_in}
 use Rattle.ddf_data_history.proofs.Steps.{by_acknowledge}
 use Rattle.ddf_data_history.proofs.Viewed.{are_members}
@@ -54,9 +56,6 @@ use Rattle.ddf_data_calls.proofs.Split as split
 use Rattle.ddf_data_calls.proofs.Standing as standing
 use Rattle.ddf_data_calls.proofs.Standing.{mark_current}
 
-true_false : (b : Bool) → b ≡ true → b ≡ false → ⊥
-true_false b x y = cc
-
 -- what is promised of an array once its promise became another one was promised in some way before
 pub promised_back : (next : Allowed → Allowed) (guid : List ℕ) (promises : Promises) (allowed : Allowed) → with_allowed next guid promises guid ≡ Some allowed → (was : Allowed) × (promises guid ≡ Some was)
 promised_back next guid promises allowed is = by (same_guid guid guid) is
@@ -68,11 +67,6 @@ promised_back next guid promises allowed is = by (same_guid guid guid) is
     by : (b : Bool) → ◌≡◌ {A = Option Allowed} (if b then option_map next (promises guid) else promises guid) (Some allowed) → (was : Allowed) × (promises guid ≡ Some was)
     by true e = mapped (promises guid) e
     by false e = (allowed, e)
-
--- what was acknowledged stays so while changes are issued
-same_acked : (group : List ℕ) (past : Past (groups group)) (changes : List Configuration) → (issue_all group past changes).changes.acked ≡ past.changes.acked
-same_acked group past [] = refl
-same_acked group past (next ∷ others) = same_acked group (issue past next) others
 
 -- its steps, and the array between them
 pub record IsSplit (found : GroupValue) (timestamp : ℕ) (entry : Entry) (asked : List Change) (ask : Option Change) (first last : List Step) (v : Volume) : Type 0 where
@@ -124,7 +118,7 @@ module _ {D : Type 0} (group : List ℕ) (old : BayState D) (past : Past (groups
   -- What the disks held is the same of the array once the first steps are written.
   pub before_alike : (before : Image) → AreWritten old.sizes old.held first before → AreAlike v before old.held
   before_alike before written slot lba cell =
-      let on = cells_on slot lba (record { element = cell.element; position = cell.position; sector = cell.sector; lies = lies_of v slot lba cell }) in
+      let on = cells_on slot lba (record { element = cell.element; position = cell.position; sector = cell.sector; lies = cell_lies v slot lba cell }) in
       floored_first slot lba before written on.1
 
   -- ---- the changes of the first steps
@@ -211,7 +205,7 @@ module _ {D : Type 0} (group : List ℕ) (old : BayState D) (past : Past (groups
 
       pub behind_alike : AreAlike v behind image
       behind_alike slot lba cell =
-          let on = cells_on slot lba (record { element = cell.element; position = cell.position; sector = cell.sector; lies = lies_of v slot lba cell }) in
+          let on = cells_on slot lba (record { element = cell.element; position = cell.position; sector = cell.sector; lies = cell_lies v slot lba cell }) in
           sym (behind_same slot lba on.0 on.1)
 
       pub once_done : IsWorked image
@@ -270,7 +264,7 @@ module _ {D : Type 0} (group : List ℕ) (old : BayState D) (past : Past (groups
       pub ended_keeps : KeepsData group (acknowledge (issue_all group now (changes_in found last)) (now.changes.acked + length (changes_in found last))) floor image some
       ended_keeps =
           by_acknowledge group floor called.small (issue_all group now (changes_in found last)) image some closing_keeps (now.changes.acked + length (changes_in found last))
-          (let same = same_acked group now (changes_in found last) in omega (arith, same))
+          (let same = acked_still group now (changes_in found last) in omega (arith, same))
 
   -- ---- the array's places
 

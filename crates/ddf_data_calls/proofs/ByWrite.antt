@@ -1,46 +1,17 @@
 -- What a write and a resync do to the blocks of an array.
-use Rattle.std.proofs.Common.{◌≡◌, ◌∙◌, inl, inr, ⊎_elim, ℕ, ◌+◌, ◌<◌, List, length, Some, sym, subst, slice_get}
+use Rattle.std.proofs.Common.{◌∙◌, inl, inr, ⊎_elim, ℕ, ◌+◌, List, length, sym}
 use Rattle.ddf_bay.specs.Sectors.{Image}
-use Rattle.ddf_array.specs.declared.part.Part.{Part}
-use Rattle.ddf_array.specs.Places.{site_on}
-use Rattle.ddf_array.specs.Sources.{copies}
 use Rattle.ddf_array.specs.Volume.{IsVolume, Volume}
-use Rattle.ddf_cells.specs.Alike.{AreAlike, IsCell}
-use Rattle.ddf_cells.specs.Parity.{IsParityCell}
-use Rattle.ddf_cells.proofs.Alike.{cell_site, copy_is_cell, depth_below}
-use Rattle.ddf_cells.proofs.CopiesOn.{block_at_sits}
-use Rattle.ddf_cells.proofs.OnCells.{block_below}
-use Rattle.ddf_write.specs.Writing.{HasWritten, IsParityOf, MayGive}
+use Rattle.ddf_cells.specs.Alike.{AreAlike}
+use Rattle.ddf_cells.proofs.Alike.{copy_is_cell}
+use Rattle.ddf_write.specs.Writing.{HasWritten, MayGive}
 use Rattle.ddf_resync.specs.Resyncing.{IsTaken, MayResync}
 use Rattle.ddf_data_array.specs.Allowed.{once_written, while_written}
 use Rattle.ddf_data_array.proofs.Resynced.{kept_resyncing}
 use Rattle.ddf_data_array.proofs.Written.{kept_once, kept_while, old_while}
 use Rattle.ddf_data_group.specs.Clear.{IsItsCell}
-use Rattle.ddf_data_group.proofs.Clearly.{lies_of}
+use Rattle.ddf_data_group.proofs.Clearly.{copy_its, parity_its, touched_its}
 use Rattle.ddf_data_calls.proofs.Carried.{Carrying}
-
--- ---- the sectors that get bytes
-
-cell_its : (v : Volume) (slot lba : ℕ) → IsCell v slot lba → IsItsCell v slot lba
-cell_its v slot lba cell = record { element = cell.element; position = cell.position; sector = cell.sector; lies = lies_of v slot lba cell }
-
-copy_its : (v : Volume) → IsVolume v → (block k slot lba : ℕ) → slice_get (copies v block) k ≡ Some (site_on slot lba) → IsItsCell v slot lba
-copy_its v known block k slot lba at = cell_its v slot lba (copy_is_cell v known block k (site_on slot lba) at)
-
-parity_its : (v : Volume) → IsVolume v → (slot lba : ℕ) → IsParityCell v slot lba → IsItsCell v slot lba
-parity_its v known slot lba of =
-    cell_its v slot lba (cell_site v known of.element of.part of.is_part of.position of.sector (site_on slot lba) (depth_below v known of.part of.sector of.deep) of.is_there)
-
-same_part : {a b : Part} → Some a ≡ Some b → a ≡ b
-same_part e = cc
-
-touched_its : (v : Volume) → IsVolume v → (start count slot lba : ℕ) → IsParityOf v start count slot lba → IsItsCell v slot lba
-touched_its v known start count slot lba of =
-    let is = of.is_at in
-    let sits = block_at_sits v known of.element is.touched.position of.sector (start + is.touched.k) is.touched.holds_it in
-    let part_same : sits.part ≡ of.part = same_part (sym sits.is_part ∙ is.is_part) in
-    let within = subst (λ (q : Part). of.sector < q.shape.blocks) part_same (block_below v known of.element is.touched.position of.sector (start + is.touched.k) sits) in
-    cell_its v slot lba (cell_site v known of.element of.part is.is_part is.position of.sector (site_on slot lba) within is.is_there)
 
 -- ---- a write
 

@@ -22,13 +22,13 @@ use Rattle.ddf_recovery.specs.Recovery.{config_recovered}
 use Rattle.ddf_seats.specs.Seated.{seated}
 use Rattle.ddf_assembly.specs.Slots.{newest_from}
 use Rattle.ddf_steps.specs.Steps.{Step}
+use Rattle.ddf_steps.proofs.Common.{written_past}
 use Rattle.ddf_history_steps.specs.Going.{Ends, Goes, IsAdmitted, KeepsHistory, changes_in}
 use Rattle.ddf_history_steps.specs.Kept.{AreAllKept, is_read}
 use Rattle.ddf_data_history.specs.Carried.{CarriesData, IsAllData, Stays}
 use Rattle.ddf_data_history.specs.Promised.{KeepsData, SameBelow, seats_in}
 use Rattle.ddf_data_history.proofs.Steps.{below_floors}
 use Rattle.ddf_data_disks.specs.Seats.{AreAlikeSeats}
-use Rattle.ddf_data_disks.proofs.Records.{written_past}
 use Rattle.ddf_answer.specs.declared.failure.Failure.{Failure}
 use Rattle.ddf_answer.specs.Call.{work_of}
 use Rattle.ddf_group_commands.specs.Change.{HasChanged, KeepsHistories, Request, is_done, steps_asked, steps_of}

@@ -28,7 +28,7 @@ use Rattle.ddf_data_group.specs.Lessening.{AllStay, AreLessParts, AreLessPositio
 use Rattle.ddf_data_group.specs.Over.{AreCurrentSeats, IsOver, absent_in}
 use Rattle.ddf_data_group.proofs.Cleared.{same_marked}
 use Rattle.ddf_data_group.proofs.Entries.{before, current_same, found_in, guid_is, never_drops, same_mark}
-use Rattle.ddf_data_group.proofs.Keeping.{kept_staying}
+use Rattle.ddf_data_group.proofs.Keeping.{kept_staying, less_parts, less_position, stay_position}
 use Rattle.ddf_data_group.proofs.Named.{finished_synced, progressed_noted}
 use Rattle.ddf_data_group.proofs.Synced.{finished, noted_rows}
 
@@ -112,21 +112,12 @@ less_synced a p [] = tt
 less_synced a zero (one ∷ positions) = (inr (refl, refl, refl, inl refl), less_rest positions)
 less_synced a (suc p) (one ∷ positions) = (inr (refl, refl, refl, inl refl), less_synced a p positions)
 
-less_same : (positions : List Position) → AreLessPositions positions positions
-less_same [] = tt
-less_same (one ∷ positions) = (inr (refl, refl, refl, inr refl), less_same positions)
-
-less_parts : (elements : List (Option ElementValue)) → AreLessParts elements elements
-less_parts [] = tt
-less_parts (None ∷ elements) = (tt, less_parts elements)
-less_parts (Some plan ∷ elements) = (record { same_level = refl; same_qualifier = refl; same_strip = refl; same_blocks = refl; less = less_same plan.positions }, less_parts elements)
-
 less_ended : (a e p : ℕ) (elements : List (Option ElementValue)) → AreLessParts (elements_in_sync e p elements) (elements_in_sync e p (elements_noted e p a elements))
 less_ended a e p [] = tt
 less_ended a zero p (None ∷ elements) = (tt, less_parts elements)
 less_ended a zero p (Some plan ∷ elements) = (record { same_level = refl; same_qualifier = refl; same_strip = refl; same_blocks = refl; less = less_synced a p plan.positions }, less_parts elements)
 less_ended a (suc e) p (None ∷ elements) = (tt, less_ended a e p elements)
-less_ended a (suc e) p (Some plan ∷ elements) = (record { same_level = refl; same_qualifier = refl; same_strip = refl; same_blocks = refl; less = less_same plan.positions }, less_ended a e p elements)
+less_ended a (suc e) p (Some plan ∷ elements) = (record { same_level = refl; same_qualifier = refl; same_strip = refl; same_blocks = refl; less = less_position plan.positions }, less_ended a e p elements)
 
 stay_rest : (c : ℕ → Bool) (positions : List Position) → AreStaying c positions (map (position_noted 0) positions)
 stay_rest c [] = tt
@@ -137,15 +128,11 @@ stay_synced c a p [] = tt
 stay_synced c a zero (one ∷ positions) = (inr (refl, refl, refl), stay_rest c positions)
 stay_synced c a (suc p) (one ∷ positions) = (inr (refl, refl, refl), stay_synced c a p positions)
 
-stay_same : (c : ℕ → Bool) (positions : List Position) → AreStaying c positions positions
-stay_same c [] = tt
-stay_same c (one ∷ positions) = (inr (refl, refl, refl), stay_same c positions)
-
 one_element : {one other : ElementValue} → ◌≡◌ {A = Option (Option ElementValue)} (Some (Some one)) (Some (Some other)) → one ≡ other
 one_element e = cc
 
 stay_itself : (c : ℕ → Bool) (elements : List (Option ElementValue)) → AllStay c elements elements
-stay_itself c elements k one other at there = subst (λ (plan : ElementValue). AreStaying c one.positions plan.positions) (one_element (sym at ∙ there)) (stay_same c one.positions)
+stay_itself c elements k one other at there = subst (λ (plan : ElementValue). AreStaying c one.positions plan.positions) (one_element (sym at ∙ there)) (stay_position c one.positions)
 
 stay_ended : (c : ℕ → Bool) (a e p : ℕ) (elements : List (Option ElementValue)) → AllStay c (elements_in_sync e p elements) (elements_in_sync e p (elements_noted e p a elements))
 stay_ended c a e p [] k one other at there = absurd cc

@@ -1,5 +1,5 @@
 -- No element of a configuration that copies give has more positions than a record has members.
-use Rattle.std.proofs.Common.{◌≡◌, ◌⊎◌, ℕ, suc, ◌+◌, ◌≤◌, Bool, true, false, List, [], ◌∷◌, map, length, Option, Some, None, Result, Ok, Err, if◌then◌else◌, refl, sym, ◌∙◌, inl, inr, ⊎_elim, subst, arith}
+use Rattle.std.proofs.Common.{◌≡◌, ℕ, suc, ◌+◌, ◌≤◌, Bool, true, false, List, [], ◌∷◌, map, length, Option, Some, None, Result, Ok, Err, if◌then◌else◌, refl, sym, ◌∙◌, inl, inr, ⊎_elim, subst, arith}
 use Rattle.std.proofs.lemmas.Bool.{and_parts}
 use Rattle.std.proofs.lemmas.List.{length-map}
 use Rattle.std.proofs.lemmas.List.FromFn.{length-enumerate_from}
@@ -7,6 +7,8 @@ use Rattle.std.specs.Prelude.{is_none, nat_eq, nat_lt, option_map, slice_get, sl
 use Rattle.std.specs.Int.{w16, w32}
 use Rattle.std.specs.List.{AllByRecursion, cons_option, enumerate_from, range_with_len}
 use Rattle.std.specs.Map.{lookup}
+use Rattle.ddf_lemmas.proofs.Lists.{all_append, all_from, in_map}
+use Rattle.ddf_lemmas.proofs.Options.{none_from_is_none}
 use Rattle.ddf_bytes.specs.Bytes.{bytes_at, number_at}
 use Rattle.ddf_bytes.specs.Choices.{ok_unless}
 use Rattle.ddf_bay.specs.Sectors.{Image}
@@ -48,6 +50,7 @@ use Rattle.ddf_copy.specs.Copies.{are_level, copy_of, newest_at, newest_in, newe
 use Rattle.ddf_copy.specs.Gate.{header_of}
 use Rattle.ddf_copy.specs.Sections.{and_then, bytes_in, copy_in, in_section, in_sector, in_slots, log_in, raw_at}
 use Rattle.ddf_copy.specs.Which.{place_of}
+use Rattle.ddf_copy.proofs.LastCopies.{ok_or}
 use Rattle.ddf_config.specs.declared.array.Array.{Array}
 use Rattle.ddf_config.specs.Configuration.{Configuration}
 use Rattle.ddf_config.specs.ElementValue.{ElementValue as ElementPlan}
@@ -56,7 +59,7 @@ use Rattle.ddf_view.specs.Reading.{array_in, arrays_in, count_in, disks_in, elem
 use Rattle.ddf_view.specs.View.{HeldRecord, View, element_of, find_held, find_note, held_from, is_element, note_at, notes_of, view_of}
 use Rattle.ddf_view.proofs.Finds.{find_has}
 use Rattle.ddf_group.specs.Shown.{shown_of}
-use Rattle.ddf_rewrite.proofs.Lists.{all_append, all_by_get, all_mapped, map_get}
+use Rattle.ddf_rewrite.proofs.Lists.{all_mapped}
 use Rattle.ddf_history.specs.Groups.{groups, read_leaders}
 use Rattle.ddf_history.specs.Leaders.{leading_copies, seen}
 use Rattle.ddf_history.specs.Reading.{Each, IsCopyOf}
@@ -80,10 +83,6 @@ element_few most bytes none =
 made_few : (most : ℕ) (bytes : List ℕ) (element : ElementValue) → element_fault_at most bytes ≡ None → element_at most bytes ≡ element → length element.members ≤ 64
 made_few most bytes element none same = subst (λ (e : ElementValue). length e.members ≤ 64) same (element_few most bytes none)
 
-none_of : {X : Type 0} (o : Option X) → is_none o ≡ true → o ≡ None
-none_of None e = refl
-none_of (Some x) e = absurd cc
-
 element_slot_few : (most : ℕ) (bytes : List ℕ) (fault : Option ElementFault) → element_fault_at most bytes ≡ fault → SlotFew (element_slot most bytes fault)
 element_slot_few most bytes None none element is = made_few most bytes element none (let same : element_at most bytes ≡ element = cc in same)
 element_slot_few most bytes (Some fault) some element is = absurd cc
@@ -95,7 +94,7 @@ vendor_slot_few most count listed bytes = by (is_notes most count bytes) (is_cop
         → SlotFew (if noted then slots.Notes (notes_at most count bytes) else if copied then slots.Copied (element_at most bytes) else slots.Vendor (bytes_at bytes VENDOR_GUID_AT 24) (vendor_rest bytes))
     by true copied e element is = absurd cc
     by false true e element is =
-        made_few most bytes element (none_of (element_fault_at most bytes) (and_parts listed (is_none (element_fault_at most bytes)) e).1) (let same : element_at most bytes ≡ element = cc in same)
+        made_few most bytes element (none_from_is_none (element_fault_at most bytes) (and_parts listed (is_none (element_fault_at most bytes)) e).1) (let same : element_at most bytes ≡ element = cc in same)
     by false false e element is = absurd cc
 
 slot_few : (most count : ℕ) (listed : Bool) (bytes : List ℕ) → SlotFew (slot_at most count listed bytes)
@@ -120,7 +119,7 @@ slots_few : (geometry : Geometry) (notes : Option Notes) (section : List ℕ) �
 unfolding slots_at
 slots_few geometry notes section =
     all_mapped SlotFew (λ slot. slot_at geometry.max_members (slot_count geometry section) (lists notes slot) (slot_bytes geometry section slot)) (range_with_len 0 (slot_count geometry section))
-    (all_by_get (λ slot. SlotFew (slot_at geometry.max_members (slot_count geometry section) (lists notes slot) (slot_bytes geometry section slot))) (range_with_len 0 (slot_count geometry section))
+    (all_from (λ slot. SlotFew (slot_at geometry.max_members (slot_count geometry section) (lists notes slot) (slot_bytes geometry section slot))) (range_with_len 0 (slot_count geometry section))
     (λ k slot at. slot_few geometry.max_members (slot_count geometry section) (lists notes slot) (slot_bytes geometry section slot)))
 
 unless_few : (fault : Option SlotFault) (made all : List RecordSlot) → SlotsFew made → in_slots (ok_unless fault made) ≡ Ok all → SlotsFew all
@@ -135,10 +134,6 @@ read_few geometry group sequence section all is =
 abbrev HasFew : Result DiskCopy CopyFault → Type 0
 HasFew (Ok copy) = SlotsFew copy.slots
 HasFew (Err fault) = Unit {0}
-
-ok_or : {A : Type 0} (read : Result A CopyFault) → ((value : A) × (read ≡ Ok value)) ⊎ ((fault : CopyFault) × (read ≡ Err fault))
-ok_or (Ok value) = inl (value, refl)
-ok_or (Err fault) = inr (fault, refl)
 
 in_copy : (header : Header) (raw : Raw) → HasFew (copy_in header raw)
 unfolding copy_in
@@ -266,7 +261,7 @@ module _ (disks : List DiskEntry) (elements : List HeldRecord) (few : AllByRecur
   unfolding array_in
   array_few entry =
       all_mapped (λ (part : Option ElementPlan). (plan : ElementPlan) → part ≡ Some plan → length plan.positions ≤ 64) (element_in disks elements entry.guid) (range_with_len 0 (count_in elements entry.guid))
-      (all_by_get (λ index. (plan : ElementPlan) → element_in disks elements entry.guid index ≡ Some plan → length plan.positions ≤ 64) (range_with_len 0 (count_in elements entry.guid))
+      (all_from (λ index. (plan : ElementPlan) → element_in disks elements entry.guid index ≡ Some plan → length plan.positions ≤ 64) (range_with_len 0 (count_in elements entry.guid))
       (λ k index at plan is. element_in_few entry.guid index plan is))
 
 -- each array has elements of few positions
@@ -276,7 +271,7 @@ ArraysFew config = (place : ℕ) (entry : List ℕ × Array) → slice_get confi
 read_arrays : (group : List ℕ) (sequence : ℕ) (views : List View) → Each ViewFew views → ArraysFew (read group sequence views)
 unfolding read
 read_arrays group sequence views few place entry at =
-    let from = map_get (λ (one : ArrayEntry). (one.guid, array_in (disks_in views) (elements_in views) one)) (arrays_in views) place entry at in
+    let from = in_map (λ (one : ArrayEntry). (one.guid, array_in (disks_in views) (elements_in views) one)) (arrays_in views) place entry at in
     subst (λ (pair : List ℕ × Array). AreFew pair.1.elements) from.2 (array_few (disks_in views) (elements_in views) (elements_few views few) from.0)
 
 leaders_few : (group : List ℕ) (views : List View) → Each ViewFew views → ArraysFew (read_leaders group views)

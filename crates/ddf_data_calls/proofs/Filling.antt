@@ -3,6 +3,8 @@ use Rattle.std.proofs.Common.{◌≡◌, ◌∙◌, ◌⊎◌, inl, inr, ⊎_eli
 use Rattle.std.proofs.lemmas.Bool.{lt-ltb}
 use Rattle.std.specs.Prelude.{is_some, nat_lt, slice_get}
 use Rattle.std.specs.Map.{lookup}
+use Rattle.ddf_lemmas.proofs.Options.{some_is}
+use Rattle.ddf_lemmas.proofs.Tests.{min_le}
 use Rattle.ddf_bay.specs.Sectors.{Image, IsLeft}
 use Rattle.ddf_bay.specs.State.{BayState}
 use Rattle.ddf_config.specs.declared.array.Array.{Array}
@@ -41,16 +43,17 @@ use Rattle.ddf_seats.specs.Seated.{seated}
 use Rattle.ddf_steps.specs.Steps.{Step}
 use Rattle.ddf_history_steps.specs.Going.{Goes, IsOver, begun, changes_in, issue_all}
 use Rattle.ddf_history_steps.specs.Kept.{is_read, is_slot}
+use Rattle.ddf_history_steps.proofs.CommittingGoes.{changes_of_both}
+use Rattle.ddf_history_steps.proofs.LastStep.{configs}
 use Rattle.ddf_data_history.specs.Promised.{IsAlone, KeepsData, seats_in}
 use Rattle.ddf_data_history.proofs.Steps.{below_floors, by_acknowledge, by_issue, seats_are}
+use Rattle.ddf_data_history.proofs.Viewed.{over_unique}
 use Rattle.ddf_data_disks.specs.Seats.{AreAlikeSeats}
 use Rattle.ddf_answer.specs.Call.{work_of}
 use Rattle.ddf_group_commands.specs.Writing.{IsLeftWriting}
 use Rattle.ddf_group_commands.specs.Written.{AreWritten}
 use Rattle.ddf_write_commands.specs.Holding.{holding}
-use Rattle.ddf_write_commands.proofs.Parts.{issued_parts}
 use Rattle.ddf_data_calls.specs.Calls.{AreMade, left_over}
-use Rattle.ddf_data_calls.proofs.Steps.{configs}
 use Rattle.ddf_rebuild_command.specs.Along.{AreIssued, HasCome, IsOverRounds}
 use Rattle.ddf_rebuild_command.specs.Asked.{rows_in}
 use Rattle.ddf_rebuild_command.specs.Filled.{RiseTo}
@@ -60,7 +63,7 @@ use Rattle.ddf_rebuild_command.specs.Rounds.{Round, row_before, rows_of, steps_o
 use Rattle.ddf_rebuild_command.specs.Stages.{IsBehind, IsLeftAt, IsLeftFilling, IsLeftNoting, Stage}
 use Rattle.ddf_rebuild_command.specs.Stages.Stage.{Filling, Noting, Opening}
 use Rattle.ddf_rebuild_command.proofs.Noting.{notes_below, notes_rise}
-use Rattle.ddf_rebuild_command.proofs.PlanFitted.{least, rise_to}
+use Rattle.ddf_rebuild_command.proofs.PlanFitted.{rise_to}
 use Rattle.ddf_rebuild_command.proofs.SeatsThere.{have_seats}
 use Rattle.ddf_rebuild_command.proofs.Views.{is_at}
 use Rattle.ddf_data_calls.proofs.Begins as begins
@@ -72,7 +75,6 @@ use Rattle.ddf_data_calls.proofs.First as start
 use Rattle.ddf_data_calls.proofs.First.{IsCalled}
 use Rattle.ddf_data_calls.proofs.NotedSteps.{AllIssue, IsRoundOf, all_issue, at_round, config_at, issue_at, issue_first, issued_of, last_at, noted_at, noted_row, rise_at, rise_between}
 use Rattle.ddf_data_calls.proofs.OneArray as one
-use Rattle.ddf_data_calls.proofs.OneArray.{over_one}
 use Rattle.ddf_data_calls.proofs.RowsSet as rows
 use Rattle.ddf_data_calls.proofs.RowsSet.{kept_cell, wider_cell}
 use Rattle.ddf_data_calls.proofs.Split as split
@@ -81,11 +83,8 @@ use Rattle.ddf_data_calls.proofs.Standing.{over_slots, seats_same}
 use Rattle.ddf_write_commands.proofs.BelowSteps.{writing_same, written_same}
 use Rattle.ddf_write_commands.proofs.StepFloors.{AllFloored, HaveFloorsOf}
 
-true_false : {A : Type 0} (b : Bool) → b ≡ true → b ≡ false → A
+pub true_false : {A : Type 0} (b : Bool) → b ≡ true → b ≡ false → A
 true_false b x y = absurd cc
-
-some_is : {X : Type 0} {a b : X} → Some a ≡ Some b → a ≡ b
-some_is e = cc
 
 -- a sector that a rebuild writes is one of the array
 pub target_its : (v : Volume) → IsVolume v → (element position from to slot lba : ℕ) → IsTargetCell v element position from to slot lba → IsItsCell v slot lba
@@ -204,7 +203,7 @@ module _ {D : Type 0} (group : List ℕ) (old new : BayState D) (tell : new.tell
 
   rise : RiseTo end (first_row plan) (rows_of plan.rounds)
   rise =
-      let few = least plan.kept end in
+      let few = min_le plan.kept end in
       subst (RiseTo end (first_row plan)) (sym plan.rows_are) (rise_to end (min plan.kept end) plan.kept (notes plan.kept end) (notes_rise plan.kept end) (notes_below plan.kept end) few.0 few.1)
 
   fill_between : rows.AreBetween (Failed old new) new.tells_left tell old.sizes plan.volume plan.known plan.apart plan.target floor low (first_row plan) end plan.rounds
@@ -302,7 +301,7 @@ module _ {D : Type 0} (group : List ℕ) (old new : BayState D) (tell : new.tell
     held_set allowed promised =
         let kept = one.own_kept group floor called.small begin between alone plan.entry.0 plan.volume view plan.known old.held promises (before_keeps old.held called.told) begin.changes.acked since allowed promised in
         let out = plan.is_out in
-        let few = least plan.kept end in
+        let few = min_le plan.kept end in
         let set : HasRebuilt v e p 0 plan.kept old.held old.held =
         subst (λ (n : ℕ). HasRebuilt v e p 0 n old.held old.held) (place_row out.part out.place out.slot out.is_target)
         (kept.rows.rebuilt plan.unmarked plan.within e p out.part out.place out.slot out.is_target (λ parity. inr (lacks_none (use_of).array (use_of).is_found e))) in
@@ -366,14 +365,14 @@ module _ {D : Type 0} (group : List ℕ) (old new : BayState D) (tell : new.tell
       may_note : (row : ℕ) → ((allowed : Allowed) → promises plan.entry.0 ≡ Some allowed → AreSet row image)
           → (allowed : Allowed) (array : Array) (w : Volume) → promises plan.entry.0 ≡ Some allowed → lookup (same_guid plan.entry.0) (between).arrays ≡ Some array → IsSeatedOver listed array w → MayBeNoted w image e p row
       may_note row set allowed array w promised there over_w =
-          subst (λ (x : Volume). MayBeNoted x image e p row) (over_one listed array v w (own_over array there) over_w)
+          subst (λ (x : Volume). MayBeNoted x image e p row) (over_unique listed array v w (own_over array there) over_w)
           (record { first = first_over listed array v e p (own_over array there) (started.first array there); rebuilt = (set allowed promised).rows })
 
       may_sync : ((allowed : Allowed) → promises plan.entry.0 ≡ Some allowed → AreSet end image)
           → (allowed : Allowed) (array : Array) (w : Volume) → promises plan.entry.0 ≡ Some allowed → lookup (same_guid plan.entry.0) (between).arrays ≡ Some array → IsSeatedOver listed array w
           → MayBeInSync (absent_in (between).members listed array.elements) w image e p
       may_sync set allowed array w promised there over_w =
-          subst (λ (x : Volume). MayBeInSync (absent_in (between).members listed array.elements) x image e p) (over_one listed array v w (own_over array there) over_w) (record {
+          subst (λ (x : Volume). MayBeInSync (absent_in (between).members listed array.elements) x image e p) (over_unique listed array v w (own_over array there) over_w) (record {
             unmarked = plan.unmarked;
             within = plan.within;
             target = plan.is_out;
@@ -420,7 +419,7 @@ module _ {D : Type 0} (group : List ℕ) (old new : BayState D) (tell : new.tell
       changes_are : changes_in found plan.first ++ configs (steps_of (take number plan.rounds)) ≡ changes_in found (plan.first ++ steps_of (take number plan.rounds))
       changes_are =
           ap (λ (all : List Configuration). changes_in found plan.first ++ all) (sym (issued_of found (steps_of (take number plan.rounds)) (issue_first found plan.rounds all_issued number)))
-          ∙ sym (issued_parts found plan.first (steps_of (take number plan.rounds)))
+          ∙ sym (changes_of_both found plan.first (steps_of (take number plan.rounds)))
 
       last : slice_get (found.config ∷ changes) (length changes) ≡ Some (config_at between plan.rounds number)
       last =

@@ -1,6 +1,7 @@
 -- The first steps of a call that works on an array of a group that it found: its recovery, and a change of the array.
 use Rattle.std.proofs.Common.{◌≡◌, ◌∙◌, ℕ, ◌<◌, ◌^◌, Bool, true, false, List, ◌++◌, length, Option, Some, None, Ok, refl, ap, sym, arith}
 use Rattle.std.specs.Prelude.{find, nat_eq, option_map, option_to_list, slice_get}
+use Rattle.ddf_lemmas.proofs.Lists.{mapped_at}
 use Rattle.ddf_bay.specs.Sectors.{Image, IsLeft}
 use Rattle.ddf_bay.specs.State.{BayState, size_of}
 use Rattle.ddf_config.specs.declared.seat.Seat.{Seat}
@@ -14,7 +15,6 @@ use Rattle.ddf_array.specs.Volume.{IsVolume, Volume}
 use Rattle.ddf_data_group.specs.Clear.{IsItsCell}
 use Rattle.ddf_data_group.specs.Grouped.{Promises}
 use Rattle.ddf_data_group.proofs.Clearly.{below_floor, used}
-use Rattle.ddf_rewrite.proofs.Lists.{get_map}
 use Rattle.ddf_history.specs.Groups.{groups}
 use Rattle.ddf_history.specs.Issued.{Past}
 use Rattle.ddf_seats.specs.declared.seated.Seated.{Seated}
@@ -85,7 +85,7 @@ module _ {D : Type 0} (group : List ℕ) (old : BayState D) (past : Past (groups
       at reference f seat found_seat floor_is slot_same low =
           let there = found_at found.seats reference seat found_seat in
           let on = on_slots.same_floor there.place seat there.is_at in (
-            slot_is (slots_of found.seats) there.place s (get_map (λ (one : Seat). one.slot) found.seats there.place seat there.is_at ∙ ap Some slot_same),
+            slot_is (slots_of found.seats) there.place s (mapped_at (λ (one : Seat). one.slot) found.seats there.place seat there.is_at ∙ ap Some slot_same),
             let same : floor s ≡ f = ap floor (sym slot_same) ∙ sym on ∙ floor_is in omega (arith, low, same),
           )
 

@@ -2,6 +2,7 @@
 use Rattle.std.proofs.Common.{◌≡◌, ◌⊎◌, ◌∙◌, inl, inr, ⊎_elim, ℕ, zero, suc, ◌<◌, ◌≤◌, Bool, true, false, List, [], ◌∷◌, ◌++◌, Option, Some, refl, sym, ap, subst, arith}
 use Rattle.std.proofs.Math.Path.{fun_ext}
 use Rattle.std.specs.Prelude.{option_to_list, slice_get, slice_index}
+use Rattle.ddf_lemmas.proofs.Tests.{true_false}
 use Rattle.ddf_bay.specs.Moments.{StopsLeave}
 use Rattle.ddf_bay.specs.Sectors.{Image}
 use Rattle.ddf_bay.specs.State.{BayState, size_of}
@@ -41,9 +42,6 @@ use Rattle.ddf_data_calls.proofs.Staged.{IsCarried}
 use Rattle.ddf_data_calls.proofs.Untouched.{seated_floor}
 use Rattle.ddf_write_commands.proofs.BelowSteps.{IsFloored, on_floor, on_step}
 use Rattle.ddf_write_commands.proofs.StepFloors.{AllFloored, HaveFloorsOf, floors_first, floors_last, readied_floors}
-
-true_false : (b : Bool) → b ≡ true → b ≡ false → ⊥
-true_false b x y = cc
 
 -- ---- the slot of a member
 

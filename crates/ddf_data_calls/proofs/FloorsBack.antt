@@ -30,9 +30,7 @@ use Rattle.ddf_data_calls.proofs.Back as back
 use Rattle.ddf_data_calls.proofs.First.{IsCalled}
 use Rattle.ddf_data_calls.proofs.Floored as floored
 use Rattle.ddf_write_commands.proofs.StepFloors.{AllFloored, floors_first, floors_last, readied_floors}
-
-true_false : {A : Type 0} (b : Bool) → b ≡ true → b ≡ false → A
-true_false b x y = absurd cc
+use Rattle.ddf_data_calls.proofs.Filling.{true_false}
 
 module _ {D : Type 0} (tells : Type 0) (old new : BayState D) (group : List ℕ) (past : Past (groups group)) (floor : ℕ → ℕ) (promises : Promises) (left : List Bool) (newest : List (Option Newest)) (named : Option (List ℕ))
     (found : GroupValue) (called : IsCalled group old past floor promises left newest named found) (all : AllHaveFloors group past old floor) (timestamp : ℕ) (word : List ℕ) (slot : ℕ)

@@ -1,6 +1,7 @@
 -- While the rows of a position are filled, and the steps around them are written, the disk of each member keeps its floor.
 use Rattle.std.proofs.Common.{◌≡◌, inl, inr, ⊎_elim, ℕ, zero, suc, ◌<◌, ◌≤◌, Bool, true, false, List, [], ◌∷◌, ◌++◌, take, Option, refl, arith}
 use Rattle.std.specs.Prelude.{option_to_list, slice_index}
+use Rattle.ddf_lemmas.proofs.Tests.{true_false}
 use Rattle.ddf_bay.specs.Moments.{StopsLeave}
 use Rattle.ddf_bay.specs.Sectors.{Image}
 use Rattle.ddf_bay.specs.State.{BayState}
@@ -36,9 +37,6 @@ use Rattle.ddf_data_calls.proofs.First as start
 use Rattle.ddf_data_calls.proofs.First.{IsCalled}
 use Rattle.ddf_data_calls.proofs.Floored as floored
 use Rattle.ddf_write_commands.proofs.StepFloors.{AllFloored, floors_first, floors_last, readied_floors}
-
-true_false : (b : Bool) → b ≡ true → b ≡ false → ⊥
-true_false b x y = cc
 
 module _ {D : Type 0} (tells : Type 0) (old new : BayState D) (group : List ℕ) (past : Past (groups group)) (floor : ℕ → ℕ) (promises : Promises) (left : List Bool) (newest : List (Option Newest)) (named : Option (List ℕ))
     (found : GroupValue) (called : IsCalled group old past floor promises left newest named found) (all : AllHaveFloors group past old floor) (timestamp : ℕ) (word : List ℕ)

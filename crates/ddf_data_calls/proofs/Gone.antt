@@ -13,7 +13,8 @@ use Rattle.ddf_seats.specs.Leading.{some}
 use Rattle.ddf_steps.specs.Steps.{Step}
 use Rattle.ddf_recovery.proofs.ReadiedSteps.{behind}
 use Rattle.ddf_history_steps.specs.Going.{Goes, IsOver, begun, changes_in, issue_all}
-use Rattle.ddf_data_calls.proofs.Steps.{configs, issued_are}
+use Rattle.ddf_history_steps.proofs.LastStep.{configs}
+use Rattle.ddf_data_calls.proofs.Steps.{issued_are}
 
 -- ---- changes that are issued one after another
 

@@ -17,17 +17,18 @@ use Rattle.ddf_assembly.specs.Group.{group_of}
 use Rattle.ddf_steps.specs.Steps.{Step}
 use Rattle.ddf_history_steps.specs.Going.{Ends, Goes, changes_in}
 use Rattle.ddf_history_steps.specs.Kept.{is_read}
+use Rattle.ddf_history_steps.proofs.CommittingGoes.{changes_of_both}
 use Rattle.ddf_data_history.specs.Carried.{Stays}
 use Rattle.ddf_answer.specs.declared.failure.Failure.{Failure}
 use Rattle.ddf_answer.specs.Call.{work_of}
 use Rattle.ddf_group_commands.specs.Change.{is_done, steps_of as steps_asked}
 use Rattle.ddf_group_commands.specs.Requests.{linux_members}
-use Rattle.ddf_write_commands.proofs.Parts.{issued_parts}
 use Rattle.ddf_rebuild_command.specs.BackAlong.{ComesAlongBack, HasGone, IsOverAll}
 use Rattle.ddf_rebuild_command.specs.BackPlanned.{BackStage, IsBackPlanned}
 use Rattle.ddf_rebuild_command.specs.BackPlanned.BackStage.{Copying, Opening, Returning}
 use Rattle.ddf_rebuild_command.specs.CopiedBack.{HasCopiedBack}
 use Rattle.ddf_rebuild_command.specs.GoingBack.{copyback_request}
+use Rattle.ddf_rebuild_command.proofs.BackCame.{steps_same}
 use Rattle.ddf_data_calls.specs.Calls.{AdmitsCall, KeepsBoth}
 use Rattle.ddf_data_calls.specs.Floors.{AllHaveFloors, HaveFloorsIn}
 use Rattle.ddf_data_calls.proofs.Back as back
@@ -36,9 +37,6 @@ use Rattle.ddf_data_calls.proofs.FloorsBack as floors
 use Rattle.ddf_data_calls.proofs.Gone.{acked_goes, goes_more, issued_goes, over_goes, steps_lose}
 use Rattle.ddf_data_calls.proofs.NotedSteps.{few_issued}
 use Rattle.ddf_data_calls.proofs.Taken.{only_reads}
-
-same_steps : (one other : List Step) → ◌≡◌ {A = Result (List Step) Failure} (Ok one) (Ok other) → one ≡ other
-same_steps one other e = cc
 
 -- ---- how far its changes have come
 
@@ -54,7 +52,7 @@ module _ {D : Type 0} (group : List ℕ) (old new : BayState D) (past : Past (gr
   loses = steps_lose found [] timestamp plan.first plan.are_first
 
   all_are : changes_in found plan.first ++ changes_in found (plan.last ∷ []) ≡ changes_in found (plan.first ++ plan.last ∷ [])
-  all_are = sym (issued_parts found plan.first (plan.last ∷ []))
+  all_are = sym (changes_of_both found plan.first (plan.last ∷ []))
 
   abbrev GoesBy : List Configuration → Past (groups group) → Type 0
   GoesBy changes now = Goes group past (is_read left) found changes now
@@ -165,7 +163,7 @@ module _ {D : Type 0} (tells : Type 0) (told : tells) (old new : BayState D) (gr
   both_kept = ⊎_elim
       (λ none. read_both none.0 none.1)
       (λ come.
-      subst Both (same_steps ((come.0).first ++ (come.0).last ∷ []) steps (sym (come.0).are_asked ∙ are_asked))
+      subst Both (steps_same ((come.0).first ++ (come.0).last ∷ []) steps (sym (come.0).are_asked ∙ are_asked))
       (keeps_both group old new past copied.taken.left found tells timestamp word slot come.0 floor promises copied.taken.newest named called (is_done outcome) come.1 whole told_since))
       (copied.along told found is_found steps are_asked group own past admits.all_kept admits.admitted)
 

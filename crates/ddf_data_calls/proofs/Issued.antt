@@ -1,12 +1,13 @@
 -- However far a call's changes have come, the data of its group are kept.
-use Rattle.std.proofs.Common.{◌≡◌, inl, inr, ⊎_elim, ℕ, zero, suc, ◌+◌, ◌<◌, ◌≤◌, ◌^◌, Bool, true, false, not, ◌&&◌, ◌||◌, List, [], ◌∷◌, ◌++◌, length, take, Some, refl, sym, subst, if◌then◌else◌, arith}
+use Rattle.std.proofs.Common.{◌≡◌, inl, inr, ⊎_elim, ℕ, zero, suc, ◌+◌, ◌<◌, ◌≤◌, ◌^◌, Bool, true, false, not, ◌&&◌, List, [], ◌∷◌, ◌++◌, length, take, Some, refl, sym, subst, if◌then◌else◌, arith}
 use Rattle.std.specs.Prelude.{slice_get}
+use Rattle.std.proofs.lemmas.Bool.{and_from, or_left}
+use Rattle.ddf_lemmas.proofs.Tests.{and_first, and_second}
 use Rattle.ddf_bay.specs.Sectors.{Image}
 use Rattle.ddf_config.specs.declared.seat.Seat.{Seat}
 use Rattle.ddf_config.specs.Configuration.{Configuration}
 use Rattle.ddf_plan.specs.Changes.{changed_at}
 use Rattle.ddf_array.specs.Losing.{AreFewer}
-use Rattle.ddf_array.proofs.Bools.{and_first, and_second}
 use Rattle.ddf_data_group.specs.Grouped.{KeepsArrays, Promises}
 use Rattle.ddf_data_group.proofs.Changed.{changed_keeps}
 use Rattle.ddf_history.specs.Groups.{Disk, groups, has_current}
@@ -21,14 +22,6 @@ use Rattle.ddf_data_history.specs.Promised.{AreAlone, KeepsData, is_seat, seats_
 use Rattle.ddf_data_history.proofs.Seats.{are_fewer}
 use Rattle.ddf_data_history.proofs.Steps.{by_acknowledge, by_issue, by_loss, by_taking, seats_are}
 use Rattle.ddf_data_calls.specs.Calls.{AreMade, IsMade, left_over}
-
-both_true : (a b : Bool) → a ≡ true → b ≡ true → (a && b) ≡ true
-both_true true b e f = f
-both_true false b e f = e
-
-or_left : (a b : Bool) → a ≡ true → (a || b) ≡ true
-or_left true b e = refl
-or_left false b e = absurd cc
 
 -- a change makes no disk a current member
 no_more : (group : List ℕ) (seats : Configuration → List Seat) (image : Image) (promises : Promises) (last next : Configuration) → IsMade seats image promises last next
@@ -59,7 +52,7 @@ module _ (group : List ℕ) (floor : ℕ → ℕ) (small : (slot : ℕ) → floo
     next_fewer : AreFewer (seats_in group past floor last) (seats_in group past floor next)
     next_fewer =
         are_fewer floor past.disk (is_seat group past last) (is_seat group past next) past.slots
-        (λ slot e. both_true (not (past.lost slot)) (has_current last (past.disk slot)) (and_first (not (past.lost slot)) (has_current next (past.disk slot)) e)
+        (λ slot e. and_from (not (past.lost slot)) (has_current last (past.disk slot)) (and_first (not (past.lost slot)) (has_current next (past.disk slot)) e)
         (no_more group (seats_in group past floor) image promises last next made (past.disk slot) (and_second (not (past.lost slot)) (has_current next (past.disk slot)) e)))
         one_slot
 

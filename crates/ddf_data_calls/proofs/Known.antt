@@ -1,9 +1,8 @@
 -- The view of an array over the seats of a group that a call found is what every view keeps, also once absent members are lost, and once the array is marked.
-use Rattle.std.proofs.Common.{◌≡◌, ◌∙◌, inr, ℕ, zero, suc, ◌<◌, ◌≤◌, ◌^◌, Bool, true, false, List, [], ◌∷◌, length, Option, Some, None, Ok, refl, ap, sym, subst, if◌then◌else◌, arith}
+use Rattle.std.proofs.Common.{◌≡◌, ◌∙◌, ℕ, zero, suc, ◌<◌, ◌≤◌, ◌^◌, Bool, true, false, List, [], ◌∷◌, length, Option, Some, None, Ok, refl, ap, sym, subst, if◌then◌else◌, arith}
 use Rattle.std.specs.Prelude.{find, nat_eq, option_map, slice_get}
 use Rattle.ddf_bay.specs.State.{BayState}
 use Rattle.ddf_config.specs.declared.array.Array.{Array}
-use Rattle.ddf_config.specs.declared.element.Position.{Position}
 use Rattle.ddf_config.specs.declared.seat.Seat.{Seat}
 use Rattle.ddf_config.specs.Configuration.{Configuration}
 use Rattle.ddf_config.specs.ElementValue.{ElementValue}
@@ -22,7 +21,7 @@ use Rattle.ddf_plan.specs.Members.{members_after}
 use Rattle.ddf_repair.proofs.Usable.{both_changed}
 use Rattle.ddf_array.specs.Viewing.{view_of}
 use Rattle.ddf_array.specs.Volume.{IsVolume, Volume}
-use Rattle.ddf_data_group.specs.Lessening.{AreLessParts, AreLessPositions}
+use Rattle.ddf_data_group.specs.Lessening.{AreLessParts}
 use Rattle.ddf_data_group.proofs.Lost.{is_less}
 use Rattle.ddf_data_group.proofs.Named.{marked_less}
 use Rattle.ddf_history.specs.Groups.{groups}
@@ -35,6 +34,8 @@ use Rattle.ddf_assembly.specs.Slots.{newest_from}
 use Rattle.ddf_history_steps.specs.Going.{IsAdmitted}
 use Rattle.ddf_history_steps.specs.Kept.{is_read}
 use Rattle.ddf_history_steps.proofs.Begun.{assembled_kept}
+use Rattle.ddf_data_group.proofs.Keeping.{less_parts}
+use Rattle.ddf_data_group.proofs.Lessened.{less_count}
 use Rattle.ddf_data_calls.specs.Floors.{HaveFloors}
 use Rattle.ddf_data_calls.proofs.Few.{ArraysFew, given_few}
 use Rattle.ddf_data_calls.proofs.Seats as seating
@@ -42,12 +43,6 @@ use Rattle.ddf_data_calls.proofs.Seats.{found_at}
 use Rattle.ddf_data_calls.proofs.Volumes.{view_is}
 
 -- ---- positions stay as many
-
-less_count : (befores afters : List Position) → AreLessPositions befores afters → length afters ≡ length befores
-less_count [] [] less = refl
-less_count [] (after ∷ afters) less = absurd less
-less_count (before ∷ befores) [] less = absurd less
-less_count (before ∷ befores) (after ∷ afters) less = ap suc (less_count befores afters less.1)
 
 less_few : (befores afters : List (Option ElementValue)) → AreLessParts befores afters → AreFew befores → AreFew afters
 less_few [] [] less few = tt
@@ -77,16 +72,6 @@ few_after k less es next is few place entry at =
     let was = entry_from k es place entry (ap (λ (all : List (List ℕ × Array)). slice_get all place) (sym is) ∙ at) in
     subst (λ (a : Array). AreFew a.elements) was.2 (less_few was.0.1.elements (k was.0.0 was.0.1).elements (less was.0.0 was.0.1) (few place was.0 was.1))
 
-same_parts : (known : List (Option ElementValue)) → AreLessParts known known
-same_parts [] = tt
-same_parts (None ∷ known) = (tt, same_parts known)
-same_parts (Some element ∷ known) =
-    (record { same_level = refl; same_qualifier = refl; same_strip = refl; same_blocks = refl; less = positions element.positions }, same_parts known)
-  where
-    positions : (all : List Position) → AreLessPositions all all
-    positions [] = tt
-    positions (one ∷ all) = (inr (refl, refl, refl, inr refl), positions all)
-
 -- Lost members leave arrays of as many positions,
 pub lost_few : (config : Configuration) (references : List ℕ) (sequence : ℕ) → ArraysFew config → ArraysFew (changed_at config (Lose references) sequence)
 lost_few config references sequence few =
@@ -105,7 +90,7 @@ marked_few config named sequence few =
   where
     by : (b : Bool) (array : Array) → AreLessParts array.elements (if b then marked array else array).elements
     by true array = (marked_less array).less
-    by false array = same_parts array.elements
+    by false array = less_parts array.elements
 
 pub recovered_few : (found : GroupValue) → ArraysFew found.config → ArraysFew (config_recovered found)
 unfolding config_recovered

@@ -2,6 +2,7 @@
 use Rattle.std.proofs.Common.{◌≡◌, ◌∙◌, ◌⊎◌, inl, inr, ℕ, zero, suc, ◌≤◌, ◌==◌, not, Bool, true, false, List, [], ◌∷◌, ◌++◌, length, map, take, cond, Option, Some, None, Ok, refl, sym, ap, subst, arith, append_assoc, append-nil}
 use Rattle.std.specs.Prelude.{filter, slice_get}
 use Rattle.std.specs.List.{AllByRecursion}
+use Rattle.ddf_lemmas.proofs.Options.{some_is}
 use Rattle.ddf_config.specs.Configuration.{Configuration}
 use Rattle.ddf_plan.specs.declared.change.Change.TheVariants.{Finish, Progress}
 use Rattle.ddf_history.specs.Groups.{Disk, has_current}
@@ -12,7 +13,7 @@ use Rattle.ddf_steps.specs.Ready.{steps_from}
 use Rattle.ddf_steps.specs.Steps.{Step, raised, step_of}
 use Rattle.ddf_seats.specs.Seated.{levelled}
 use Rattle.ddf_history_steps.specs.Going.{changes_in}
-use Rattle.ddf_data_calls.proofs.Steps.{configs}
+use Rattle.ddf_history_steps.proofs.LastStep.{configs}
 use Rattle.ddf_rebuild_command.specs.Filled.{RiseTo}
 use Rattle.ddf_rebuild_command.specs.Plans.{notes_and_end}
 use Rattle.ddf_rebuild_command.specs.Rounds.{Round, row_before, rows_of, steps_of}
@@ -35,9 +36,6 @@ abbrev pub noted_at : Option ℕ → List Round → (number : ℕ) → Option �
 noted_at noted rounds zero = noted
 noted_at noted [] (suc number) = noted
 noted_at noted (round ∷ rounds) (suc number) = noted_at (Some round.row) rounds number
-
-some_is : {X : Type 0} {a b : X} → Some a ≡ Some b → a ≡ b
-some_is e = cc
 
 -- it is that up to which was filled
 pub noted_row : (noted : Option ℕ) (from : ℕ) → ((row : ℕ) → noted ≡ Some row → row ≡ from) → (rounds : List Round) (number row : ℕ) → noted_at noted rounds number ≡ Some row → row ≡ row_before from rounds number

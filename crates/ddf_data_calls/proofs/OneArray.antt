@@ -1,23 +1,22 @@
 -- An array of the one configuration that a group has: what becomes of its blocks keeps the data of the group.
-use Rattle.std.proofs.Common.{◌≡◌, ◌∙◌, inl, ℕ, ◌<◌, ◌^◌, Bool, true, false, ◌&&◌, nat_eq, List, [], ◌∷◌, Option, Some, None, Ok, refl, sym, ap, subst}
-use Rattle.std.proofs.lemmas.Bool.{eq-eqb}
+use Rattle.std.proofs.Common.{◌≡◌, ◌∙◌, inl, ℕ, ◌<◌, ◌^◌, Bool, true, false, List, Option, Some, None, Ok, refl, sym, ap, subst}
 use Rattle.std.specs.Prelude.{option_map, if◌then◌else◌}
 use Rattle.std.specs.Map.{lookup}
+use Rattle.ddf_lemmas.proofs.Options.{same_some}
+use Rattle.ddf_lemmas.proofs.Tests.{true_false}
 use Rattle.ddf_bay.specs.Sectors.{Image}
-use Rattle.ddf_secondary.specs.Arrangement.{Arrangement}
 use Rattle.ddf_config.specs.declared.array.Array.{Array}
 use Rattle.ddf_config.specs.declared.seat.Seat.{Seat}
 use Rattle.ddf_config.specs.Configuration.{Configuration}
 use Rattle.ddf_config.specs.Members.{same_guid}
-use Rattle.ddf_config.specs.Shapes.{array_tiers}
+use Rattle.ddf_config.proofs.Common.{same_self}
 use Rattle.ddf_plan.specs.declared.change.Change.TheVariants.{Unmark}
-use Rattle.ddf_array.specs.declared.part.Part.{Part}
 use Rattle.ddf_array.specs.Apart.{IsApart}
 use Rattle.ddf_array.specs.Redundant.{IsRedundant}
 use Rattle.ddf_array.specs.Sound.{AreSectors}
 use Rattle.ddf_array.specs.Values.{given}
 use Rattle.ddf_array.specs.Viewing.{view_of}
-use Rattle.ddf_array.specs.Volume.{IsVolume, Volume, volume}
+use Rattle.ddf_array.specs.Volume.{IsVolume, Volume}
 use Rattle.ddf_array.specs.Within.{is_within}
 use Rattle.ddf_array.proofs.Apart.{view_apart}
 use Rattle.ddf_cells.specs.Degraded.{is_degraded}
@@ -40,40 +39,11 @@ use Rattle.ddf_history.specs.Groups.{groups}
 use Rattle.ddf_history.specs.Issued.{IsSince, Past}
 use Rattle.ddf_data_history.specs.Promised.{IsAlone, KeepsData, OthersStay, seats_in, with_promise}
 use Rattle.ddf_data_history.proofs.Steps.{by_data, seats_are}
-use Rattle.ddf_data_history.proofs.Viewed.{are_members}
+use Rattle.ddf_data_history.proofs.Viewed.{are_members, over_unique}
 use Rattle.ddf_data_calls.specs.Promised.{counted, with_allowed}
-
--- ---- an array is one volume over seats
-
-one_of : {X : Type 0} (o : Option X) (one other : X) → o ≡ Some one → o ≡ Some other → one ≡ other
-one_of None one other a b = absurd cc
-one_of (Some x) one other a b = let first : x ≡ one = cc in let second : x ≡ other = cc in sym first ∙ second
-
-pub over_one : (seats : List Seat) (array : Array) (v w : Volume) → IsOver seats array v → IsOver seats array w → v ≡ w
-over_one seats array v w one other =
-    ap (λ (b : Bool). volume b v.tiers v.parts) (one.marked_is ∙ sym other.marked_is)
-    ∙ ap (λ (t : Arrangement). volume w.marked t v.parts) (one_of (array_tiers array) v.tiers w.tiers one.tiers_are other.tiers_are)
-    ∙ ap (λ (l : List Part). volume w.marked w.tiers l) (one.parts_are ∙ sym other.parts_are)
-
--- ---- GUIDs
-
-true_false : (b : Bool) → b ≡ true → b ≡ false → ⊥
-true_false b x y = cc
-
-and_both : (a b : Bool) → a ≡ true → b ≡ true → (a && b) ≡ true
-and_both true b e f = f
-and_both false b e f = absurd cc
-
--- one is the same as itself
-same_self : (xs : List ℕ) → same_guid xs xs ≡ true
-same_self [] = refl
-same_self (x ∷ xs) = and_both (nat_eq x x) (same_guid xs xs) (eq-eqb x x refl) (same_self xs)
+use Rattle.ddf_data_calls.proofs.Begun.{fewer_keep}
 
 -- ---- promises that say less
-
-pub fewer_kept : (group : List ℕ) (past : Past (groups group)) (floor : ℕ → ℕ) (image : Image) (promises fewer : Promises) → ((guid : List ℕ) (allowed : Allowed) → fewer guid ≡ Some allowed → promises guid ≡ Some allowed)
-    → KeepsData group past floor image promises → KeepsData group past floor image fewer
-fewer_kept group past floor image promises fewer less kept number config since guid allowed array promised found = kept number config since guid allowed array (less guid allowed promised) found
 
 -- a block may have what it might, and perhaps more
 module _ (next : Allowed → Allowed) (weaker : (allowed : Allowed) (block : ℕ) (bytes : List ℕ) → May (allowed block) bytes → May (next allowed block) bytes) where
@@ -128,10 +98,10 @@ module _ (group : List ℕ) (floor : ℕ → ℕ) (small : (slot : ℕ) → floo
     own : (new : Allowed) → IsKeptData absent v image new → (array : Array) → lookup (same_guid guid) config.arrays ≡ Some array → (number : ℕ) → IsSince past.changes number config
         → KeepsArray config.members (seats_in group past floor config) array image new
     own new is array found number since w over =
-        let one = one_of (lookup (same_guid guid) config.arrays) (use_of).array array (use_of).is_found found in
+        let one = same_some (lookup (same_guid guid) config.arrays) (use_of).array array (use_of).is_found found in
         let here : IsOver (seats_in group past floor config) array v = subst (λ (a : Array). IsOver (seats_in group past floor config) a v) one (use_of).over in
         subst (λ (a : Array). IsKeptData (absent_in config.members (seats_in group past floor config) a.elements) w image new) one
-        (subst (λ (x : Volume). IsKeptData absent x image new) (over_one (seats_in group past floor config) array v w here over) is)
+        (subst (λ (x : Volume). IsKeptData absent x image new) (over_unique (seats_in group past floor config) array v w here over) is)
 
     -- It gets a promise that it keeps,
     pub gets : (new : Allowed) → IsKeptData absent v image new → KeepsData group past floor image (with_promise promises guid (Some new))
@@ -150,7 +120,7 @@ module _ (group : List ℕ) (floor : ℕ → ℕ) (small : (slot : ℕ) → floo
         by : (o : Option Allowed) → promises guid ≡ o → KeepsData group past floor image (with_promise promises guid (option_map next o))
         by (Some allowed) e = gets (next allowed) (is allowed e)
         by None e =
-            fewer_kept group past floor image (with_promise promises guid (Some any_bytes)) (with_promise promises guid None) (λ other allowed is. less_by (same_guid guid other) other allowed is)
+            fewer_keep group past floor image (with_promise promises guid (Some any_bytes)) (with_promise promises guid None) (λ other allowed is. less_by (same_guid guid other) other allowed is)
             (gets any_bytes (kept_any absent v image are writable))
 
     -- or keeps what is promised of it.
@@ -177,10 +147,10 @@ module _ (group : List ℕ) (floor : ℕ → ℕ) (small : (slot : ℕ) → floo
       → ((allowed : Allowed) → promises guid ≡ Some allowed → IsRedundant v image) → (init : ℕ) → MayChange config (seats_in group past floor config) image promises (Unmark guid init)
   may_unmark image promises rows kept number since within whole is init named allowed array promised found same w over =
       let found_own : lookup (same_guid guid) config.arrays ≡ Some array = ap (λ (name : List ℕ). lookup (same_guid name) config.arrays) (sym same) ∙ found in
-      let one = one_of (lookup (same_guid guid) config.arrays) (use_of).array array (use_of).is_found found_own in
+      let one = same_some (lookup (same_guid guid) config.arrays) (use_of).array array (use_of).is_found found_own in
       let here : IsOver (seats_in group past floor config) array v = subst (λ (a : Array). IsOver (seats_in group past floor config) a v) one (use_of).over in
       let lacks = absent_in config.members (seats_in group past floor config) array.elements in
-      subst (λ (x : Volume). MayBeCleared lacks x image allowed) (over_one (seats_in group past floor config) array v w here over)
+      subst (λ (x : Volume). MayBeCleared lacks x image allowed) (over_unique (seats_in group past floor config) array v w here over)
       (redundant_may lacks v image allowed known within whole (is allowed (ap promises (sym same) ∙ promised)) (rows lacks) (kept number config since named allowed array promised found v here))
 
   -- and count with what it holds.

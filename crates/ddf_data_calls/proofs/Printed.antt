@@ -31,10 +31,11 @@ use Rattle.ddf_data_history.proofs.Returned.{read_since}
 use Rattle.ddf_data_history.proofs.Steps.{seats_are}
 use Rattle.ddf_request.specs.Named.{named_array}
 use Rattle.ddf_answer.specs.declared.failure.Failure.{Failure}
-use Rattle.ddf_answer.specs.declared.failure.Failure.TheVariants.{Conflict, Disk, Memory, Refused, Split}
-use Rattle.ddf_answer.specs.Answers.{IsToldFailure, failure_of}
+use Rattle.ddf_answer.specs.declared.failure.Failure.TheVariants.{Memory}
+use Rattle.ddf_answer.specs.Answers.{failure_of}
 use Rattle.ddf_answer.specs.Call.{Answer, work_of}
 use Rattle.ddf_group.specs.declared.answer.Assembly.{Assembly}
+use Rattle.ddf_answer.proofs.Common.{no_failure}
 use Rattle.ddf_read_commands.specs.Read.{AreBlocks, HasRead, IsReadDone, IsReadIn, IsReadOf, IsReadTold, IsReadable, Outcome}
 use Rattle.ddf_read_commands.specs.Read.Outcome.{CutShort, NotRead, Stopped, Whole}
 use Rattle.ddf_data_calls.specs.Reading.{AdmitsRead, HasReturned, MayBe, Means, blocks_printed}
@@ -107,14 +108,6 @@ printed_may group tells told old new past floor small promises named word start 
 
 -- ---- a read that was done
 
--- one that wasn't has another status
-not_done : (failure : Failure) (answer : Answer) → IsToldFailure failure answer → answer.status ≡ 0 → ⊥
-not_done (Refused refusal) answer told done = ⊎_elim (λ one. omega (arith, one, done)) (λ cut. ⊎_elim (λ five. omega (arith, five, done)) (λ six. omega (arith, six, done)) cut) told.ends
-not_done (Disk slot) answer told done = ⊎_elim (λ three. omega (arith, three, done)) (λ six. omega (arith, six, done)) told.ends
-not_done (Conflict i j sequence differ) answer told done = ⊎_elim (λ four. omega (arith, four, done)) (λ cut. ⊎_elim (λ five. omega (arith, five, done)) (λ six. omega (arith, six, done)) cut) told.ends
-not_done (Split i j) answer told done = ⊎_elim (λ four. omega (arith, four, done)) (λ cut. ⊎_elim (λ five. omega (arith, five, done)) (λ six. omega (arith, six, done)) cut) told.ends
-not_done Memory answer told done = let five = told.0 in omega (arith, five, done)
-
 module _ (group : List ℕ) {D : Type 0} (tells : Type 0) (told : tells) (old new : BayState D) (past : Past (groups group)) (floor : ℕ → ℕ) (small : (slot : ℕ) → floor slot < 2 ^ 64)
     (promises : Promises) (named : Option (List ℕ)) (word : List ℕ) (start count : ℕ) (answer : Answer) (read : IsReadDone (work_of tells old new) named word start count answer)
     (done : answer.status ≡ 0) (means : Means group read.has.newest named) (admits : AdmitsRead group past floor promises old read.has.left) where
@@ -141,12 +134,12 @@ module _ (group : List ℕ) {D : Type 0} (tells : Type 0) (told : tells) (old ne
             by_blocks group tells told old new past floor small promises read.has.left admits read.has.newest read.has.every_slot (read.has.read told) named found at own word start count
             came.1.entry.0 came.1.entry.1 came.1.is_named allowed promised came.0 came.1 sectors came.2.1;
       }
-  returned_of found at (NotRead failure) ends came = absurd (not_done failure answer ends done)
+  returned_of found at (NotRead failure) ends came = absurd (no_failure failure answer ends done)
   returned_of found at (Stopped front slot) ends came = absurd (let three = ends.ends in omega (arith, three, done))
   returned_of found at (CutShort front) ends came = absurd (let six = ends.0 in omega (arith, six, done))
 
   none_found : (outcome : Outcome) (failure : Failure) → IsReadTold outcome answer → outcome ≡ NotRead failure → ⊥
-  none_found outcome failure ends is = not_done failure answer (subst (λ (one : Outcome). IsReadTold one answer) is ends) done
+  none_found outcome failure ends is = no_failure failure answer (subst (λ (one : Outcome). IsReadTold one answer) is ends) done
 
   -- A read with status 0 returned what it should.
   pub read_returned : Returned

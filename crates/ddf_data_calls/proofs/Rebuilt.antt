@@ -2,6 +2,7 @@
 use Rattle.std.proofs.Common.{◌≡◌, ◌∙◌, inl, inr, ⊎_elim, ℕ, zero, suc, ◌≤◌, ◌<◌, ◌^◌, Bool, true, false, List, [], ◌∷◌, ◌++◌, length, drop, take, Option, Some, None, Result, Ok, Err, refl, ap, sym, subst, arith, append_assoc, length-append}
 use Rattle.std.proofs.Math.Seq.{take-length}
 use Rattle.std.specs.Prelude.{option_to_list, slice_get}
+use Rattle.ddf_lemmas.proofs.Options.{some_is}
 use Rattle.ddf_bay.specs.ReadsOnly.{ReadsOnly}
 use Rattle.ddf_bay.specs.Sectors.{Image, IsLeft}
 use Rattle.ddf_bay.specs.State.{BayState}
@@ -25,13 +26,13 @@ use Rattle.ddf_seats.specs.Leading.{some}
 use Rattle.ddf_steps.specs.Steps.{Step}
 use Rattle.ddf_history_steps.specs.Going.{Ends, Goes, IsOver, changes_in}
 use Rattle.ddf_history_steps.specs.Kept.{is_read}
+use Rattle.ddf_history_steps.proofs.CommittingGoes.{changes_of_both}
 use Rattle.ddf_data_history.specs.Carried.{Stays}
 use Rattle.ddf_answer.specs.declared.failure.Failure.{Failure}
 use Rattle.ddf_answer.specs.Call.{work_of}
 use Rattle.ddf_group_commands.specs.Change.{Request, is_done, steps_asked as steps_by, steps_of as steps_asked}
 use Rattle.ddf_group_commands.proofs.Outcomes.{asked_of}
 use Rattle.ddf_write_commands.specs.Planned.{Entry}
-use Rattle.ddf_write_commands.proofs.Parts.{issued_parts}
 use Rattle.ddf_data_calls.specs.Calls.{AdmitsCall, KeepsBoth}
 use Rattle.ddf_data_calls.specs.Floors.{AllHaveFloors, HaveFloorsIn}
 use Rattle.ddf_data_calls.proofs.Called.{TookGroup, keeps_both as keeps_unchanged}
@@ -54,6 +55,7 @@ use Rattle.ddf_data_calls.proofs.Gone.{acked_goes, goes_more, issued_goes, over_
 use Rattle.ddf_data_calls.proofs.NotedSteps.{few_issued}
 use Rattle.ddf_data_calls.proofs.Taken.{only_reads}
 use Rattle.ddf_write_commands.proofs.StepFloors.{readied_floors}
+use Rattle.ddf_rebuild_command.proofs.BackCame.{steps_same}
 
 -- ---- the steps of rounds, taken apart
 
@@ -67,12 +69,6 @@ steps_at : (rounds : List Round) (number : ℕ) (round : Round) → slice_get ro
 steps_at [] number round at = absurd cc
 steps_at (one ∷ rounds) zero round at = let same : one ≡ round = cc in ap (λ (each : Round). each.step ∷ steps_of rounds) (sym same)
 steps_at (one ∷ rounds) (suc number) round at = ap (λ (steps : List Step). one.step ∷ steps) (steps_at rounds number round at)
-
-same_steps : (one other : List Step) → ◌≡◌ {A = Result (List Step) Failure} (Ok one) (Ok other) → one ≡ other
-same_steps one other e = cc
-
-same_entry : {X : Type 0} {a b : X} → Some a ≡ Some b → a ≡ b
-same_entry e = cc
 
 -- ---- how far its changes have come
 
@@ -93,7 +89,7 @@ module _ {D : Type 0} (group : List ℕ) (old new : BayState D) (past : Past (gr
   loses_behind number absent =
       let least = loses absent in
       let long = length-append first (changes_in found (steps_of (take number plan.rounds))) in
-      subst (λ (all : List Configuration). 1 ≤ length all) (sym (issued_parts found plan.first (steps_of (take number plan.rounds)))) (omega (arith, least, long))
+      subst (λ (all : List Configuration). 1 ≤ length all) (sym (changes_of_both found plan.first (steps_of (take number plan.rounds)))) (omega (arith, least, long))
 
   abbrev GoesBy : List Configuration → Past (groups group) → Type 0
   GoesBy changes now = Goes group past (is_read left) found changes now
@@ -101,13 +97,13 @@ module _ {D : Type 0} (group : List ℕ) (old new : BayState D) (past : Past (gr
   stage_goes : (stage : Stage) (now : Past (groups group)) → HasCome group (work_of tells old new) past left found plan stage now
       → Goes group past (is_read left) found (changes_in found (plan.first ++ steps_of plan.rounds)) now
   stage_goes Opening now come =
-      subst (λ (changes : List Configuration). GoesBy changes now) (sym (issued_parts found plan.first (steps_of plan.rounds)))
+      subst (λ (changes : List Configuration). GoesBy changes now) (sym (changes_of_both found plan.first (steps_of plan.rounds)))
       (goes_more group past (is_read left) found first (changes_in found (steps_of plan.rounds)) now come)
   stage_goes (Filling number) now come =
       let before = plan.first ++ steps_of (take number plan.rounds) in
       let others = steps_of (drop number plan.rounds) in
       let all : changes_in found (plan.first ++ steps_of (take number plan.rounds)) ++ changes_in found (steps_of (drop number plan.rounds)) ≡ changes_in found (plan.first ++ steps_of plan.rounds) =
-      sym (issued_parts found before others)
+      sym (changes_of_both found before others)
       ∙ ap (changes_in found) (append_assoc plan.first (steps_of (take number plan.rounds)) others ∙ ap (λ (steps : List Step). plan.first ++ steps) (steps_parts plan.rounds number)) in
       subst (λ (changes : List Configuration). GoesBy changes now) all
       (over_goes group past (is_read left) found (changes_in found before) (changes_in found others) (loses_behind number) now come)
@@ -118,8 +114,8 @@ module _ {D : Type 0} (group : List ℕ) (old new : BayState D) (past : Past (gr
       let one : length (changes_in found ((come.2).step ∷ [])) ≤ 1 = few_issued found ((come.2).step ∷ []) in
       let all : (changes_in found (plan.first ++ steps_of (take number plan.rounds)) ++ changes_in found ((come.2).step ∷ [])) ++ changes_in found (steps_of (drop (suc number) plan.rounds))
       ≡ changes_in found (plan.first ++ steps_of plan.rounds) =
-      ap (λ (changes : List Configuration). changes ++ changes_in found others) (sym (issued_parts found before (round.step ∷ [])))
-      ∙ sym (issued_parts found (before ++ round.step ∷ []) others)
+      ap (λ (changes : List Configuration). changes ++ changes_in found others) (sym (changes_of_both found before (round.step ∷ [])))
+      ∙ sym (changes_of_both found (before ++ round.step ∷ []) others)
       ∙ ap (changes_in found)
       (append_assoc before (round.step ∷ []) others ∙ append_assoc plan.first (steps_of (take number plan.rounds)) (round.step ∷ others)
       ∙ ap (λ (steps : List Step). plan.first ++ steps) (steps_at plan.rounds number round come.3)) in
@@ -178,7 +174,7 @@ module _ {D : Type 0} (group : List ℕ) (old new : BayState D) (past : Past (gr
 -- where a position is to be filled not every position is in sync
 never_idle : (found : GroupValue) (timestamp : ℕ) (word : List ℕ) → IsPlanned found timestamp word → IsIdle found timestamp word → ⊥
 never_idle found timestamp word plan idle =
-    let same : plan.entry ≡ idle.entry = same_entry (sym plan.is_named ∙ idle.is_named) in
+    let same : plan.entry ≡ idle.entry = some_is (sym plan.is_named ∙ idle.is_named) in
     subst (BeginsAt plan.entry plan.target plan.kept plan.before) (ap (λ (entry : Entry). begun (config_recovered found) entry.0 found.seats (passed_over (linux_members found) entry.1)) same ∙ idle.nothing) plan.begins
 
 -- where each is nothing is asked of the group
@@ -295,7 +291,7 @@ module _ {D : Type 0} (tells : Type 0) (told : tells) (old new : BayState D) (gr
       (⊎_elim
       idle_both
       (λ come.
-      subst Both (same_steps ((come.0).first ++ steps_of (come.0).rounds) steps (sym (come.0).are_asked ∙ are_asked))
+      subst Both (steps_same ((come.0).first ++ steps_of (come.0).rounds) steps (sym (come.0).are_asked ∙ are_asked))
       (keeps_both group old new past rebuilt.taken.left found tells timestamp word come.0 floor promises rebuilt.taken.newest named called (is_done outcome) come.1 whole told_since)))
       (rebuilt.along told found is_found steps are_asked group own past admits.all_kept admits.admitted)
 

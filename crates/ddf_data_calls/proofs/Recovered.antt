@@ -1,12 +1,12 @@
 -- Once absent members are lost the seats of a group that a call found are those that its history lists.
-use Rattle.std.proofs.Common.{◌≡◌, ◌∙◌, ℕ, zero, suc, Bool, true, false, not, ◌&&◌, ◌||◌, nat_eq, List, [], ◌∷◌, length, map, find, Option, Some, None, Ok, refl, ap, sym, if◌then◌else◌, ◌+◌, arith}
-use Rattle.std.proofs.lemmas.Bool.{eq-eqb, eqb-true}
-use Rattle.std.specs.Prelude.{option_map, slice_get}
+use Rattle.std.proofs.Common.{◌≡◌, ◌∙◌, ℕ, Bool, true, false, not, ◌&&◌, ◌||◌, nat_eq, List, length, find, Option, Some, None, Ok, refl, ap, sym, if◌then◌else◌, ◌+◌, arith}
+use Rattle.std.specs.Prelude.{option_map}
+use Rattle.ddf_lemmas.proofs.Lists.{in_map}
+use Rattle.ddf_lemmas.proofs.Tests.{and_first, and_second, none_away}
 use Rattle.ddf_bay.specs.State.{BayState}
 use Rattle.ddf_config.specs.declared.member.Member.{Member}
 use Rattle.ddf_config.specs.declared.seat.Seat.{Seat}
 use Rattle.ddf_config.specs.Configuration.{Configuration}
-use Rattle.ddf_config.specs.Entries.{changed_entries}
 use Rattle.ddf_config.specs.Members.{is_current}
 use Rattle.ddf_config.specs.Seats.{floor_of, slot_of}
 use Rattle.ddf_copy.specs.declared.newest_copy.Newest.{Newest}
@@ -14,8 +14,6 @@ use Rattle.ddf_plan.specs.declared.change.Change.TheVariants.{Lose}
 use Rattle.ddf_plan.specs.Changes.{changed_at}
 use Rattle.ddf_plan.specs.Lose.{is_among}
 use Rattle.ddf_plan.specs.Members.{member_after}
-use Rattle.ddf_array.proofs.Bools.{and_first, and_second}
-use Rattle.ddf_rewrite.proofs.Lists.{map_get}
 use Rattle.ddf_history.specs.Answer.{HasMember, IsReadable}
 use Rattle.ddf_history.specs.Groups.{Disk, groups, has_current}
 use Rattle.ddf_history.specs.Issued.{IsSince, Past, leave_out}
@@ -30,40 +28,25 @@ use Rattle.ddf_seats.specs.Group.{GroupValue}
 use Rattle.ddf_assembly.specs.Group.{group_of}
 use Rattle.ddf_recovery.specs.Recovery.{config_lost, config_recovered}
 use Rattle.ddf_seats.specs.Leading.{some}
+use Rattle.ddf_steps.proofs.MembersAfter.{changed_map}
 use Rattle.ddf_assembly.specs.Slots.{newest_from}
+use Rattle.ddf_recovery.proofs.Behind.{none_some}
 use Rattle.ddf_history_steps.specs.Kept.{is_read, is_slot}
 use Rattle.ddf_history_steps.proofs.Begun.{assembled_kept}
 use Rattle.ddf_history_steps.proofs.ChangingStays.{stays_current}
 use Rattle.ddf_history_steps.proofs.Claimed as claims
-use Rattle.ddf_history_steps.proofs.RecoveringLoss.{listed_current}
+use Rattle.ddf_history_steps.proofs.RecoveringLoss.{listed_current, still_current_in}
 use Rattle.ddf_history_steps.proofs.Slots.{slot_placed}
 use Rattle.ddf_data_history.specs.Promised.{is_seat, seats_in}
 use Rattle.ddf_data_history.proofs.Seats.{found as listed, has_seat}
 use Rattle.ddf_data_disks.specs.Seats.{AreAlikeSeats}
+use Rattle.ddf_data_disks.proofs.Ended.{find_one}
 use Rattle.ddf_data_calls.specs.Calls.{left_over}
 use Rattle.ddf_data_calls.specs.Floors.{HaveFloors}
 use Rattle.ddf_data_calls.proofs.Seats as seating
 use Rattle.ddf_data_calls.proofs.Seats.{AreInOne, AreListed, IsListed, at_slot, found_at, in_one}
 
 -- ---- members that a loss leaves
-
-still_current_in : (config : Configuration) (references : List ℕ) (reference : ℕ) → is_among references reference ≡ false → (members : List (ℕ × Member)) → is_current members reference ≡ true
-    → is_current (map (λ (entry : ℕ × Member). (entry.0, member_after config (Lose references) entry.0 entry.1)) members) reference ≡ true
-still_current_in config references reference free [] is = is
-still_current_in config references reference free (entry ∷ members) is = go (still_current_in config references reference free members) (nat_eq reference entry.0) refl
-  where
-    go : (is_current members reference ≡ true → is_current (map (λ (entry : ℕ × Member). (entry.0, member_after config (Lose references) entry.0 entry.1)) members) reference ≡ true)
-        → (b : Bool) → nat_eq reference entry.0 ≡ b
-        → is_current (map (λ (entry : ℕ × Member). (entry.0, member_after config (Lose references) entry.0 entry.1)) (entry ∷ members)) reference ≡ true
-    go later true here =
-        let none : is_among references entry.0 ≡ false = ap (is_among references) (sym (eqb-true reference entry.0 here)) ∙ free in
-        let same : (member_after config (Lose references) entry.0 entry.1).missing ≡ entry.1.missing = ap (λ (b : Bool). b || entry.1.missing) none in
-        rw (here, is_current) (ap (λ (b : Bool). not b) same ∙ rw (here, is_current) at is)
-    go later false here = rw (here, is_current) (later (rw (here, is_current) at is))
-
-changed_map : (g : ℕ → Member → Member) (entries : List (ℕ × Member)) → changed_entries (λ k m. Some (g k m)) entries ≡ map (λ (entry : ℕ × Member). (entry.0, g entry.0 entry.1)) entries
-changed_map g [] = refl
-changed_map g (entry ∷ entries) = ap (λ (l : List (ℕ × Member)). (entry.0, g entry.0 entry.1) ∷ l) (changed_map g entries)
 
 lost_current : (config : Configuration) (references : List ℕ) (sequence : ℕ) (disk : Disk) → has_current config disk ≡ true → is_among references disk.reference ≡ false
     → has_current (changed_at config (Lose references) sequence) disk ≡ true
@@ -77,25 +60,6 @@ was_current group config references sequence disk is =
     let follow = changes_follow group config (Lose references) (config.sequence + 1) (omega arith) in follow.no_more disk is
 
 -- ---- lists and tests
-
-none_some : {X : Type 0} (xs : List X) → some xs ≡ false → xs ≡ []
-none_some [] e = refl
-none_some (x ∷ xs) e = absurd cc
-
--- one that is there is found, or another of its reference
-pub find_one : (seats : List Seat) (reference place : ℕ) (seat : Seat) → slice_get seats place ≡ Some seat → seat.reference ≡ reference → find (λ (s : Seat). nat_eq s.reference reference) seats ≡ None → ⊥
-find_one [] reference place seat at same none = cc
-find_one (first ∷ seats) reference place seat at same none = by (nat_eq first.reference reference) refl place at none (λ k there rest. find_one seats reference k seat there same rest)
-  where
-    true_false : (b : Bool) → b ≡ true → b ≡ false → ⊥
-    true_false b x y = cc
-
-    by : (b : Bool) → nat_eq first.reference reference ≡ b → (k : ℕ) → slice_get (first ∷ seats) k ≡ Some seat → ◌≡◌ {A = Option Seat} (if b then Some first else find (λ (s : Seat). nat_eq s.reference reference) seats) None
-        → ((k : ℕ) → slice_get seats k ≡ Some seat → find (λ (s : Seat). nat_eq s.reference reference) seats ≡ None → ⊥) → ⊥
-    by true is k at none later = cc
-    by false is zero at none later =
-        let one : first ≡ seat = cc in true_false (nat_eq first.reference reference) (eq-eqb first.reference reference (ap (λ (s : Seat). s.reference) one ∙ same)) is
-    by false is (suc k) at none later = later k at none
 
 not_out : (lost read current : Bool) → lost ≡ false → read ≡ true → (lost || not read && current) ≡ false
 not_out true read current a b = absurd cc
@@ -111,15 +75,6 @@ was_read false false false e b = absurd cc
 was_there : (lost read current : Bool) → not (lost || not read && current) ≡ true → lost ≡ false
 was_there true read current e = absurd cc
 was_there false read current e = refl
-
-none_away : (a b : Bool) → a ≡ false → (b ≡ true → ⊥) → (a || b) ≡ false
-none_away true b e never = absurd (cc)
-none_away false true e never = absurd (never refl)
-none_away false false e never = refl
-
-not_lost_is : (b : Bool) → not b ≡ true → b ≡ false
-not_lost_is true e = absurd cc
-not_lost_is false e = refl
 
 -- ---- the seats
 
@@ -208,7 +163,7 @@ module _ (group : List ℕ) {D : Type 0} (state : BayState D) (left : List Bool)
     none_listed reference none (Some seat) e =
         let has = has_seat floor (left_over group past (is_read left) g).disk (is_seat group (left_over group past (is_read left) g) (config_recovered g)) reference 0 (left_over group past (is_read left) g).slots seat e in
         let placed = slot_placed (slots_of g.seats) has.slot (current_seated has.slot has.is_here) in
-        let own_seat = map_get (λ (s : Seat). s.slot) g.seats placed.0 has.slot placed.1 in
+        let own_seat = in_map (λ (s : Seat). s.slot) g.seats placed.0 has.slot placed.1 in
         let is_own = recovered_listed placed.0 own_seat.0 own_seat.1 in
         absurd (find_one g.seats reference placed.0 own_seat.0 own_seat.1
         (is_own.same_reference ∙ ap (λ (s : ℕ). ((left_over group past (is_read left) g).disk s).reference) own_seat.2 ∙ has.is_reference) none)

@@ -3,6 +3,7 @@ use Rattle.std.proofs.Common.{◌≡◌, ◌∙◌, ℕ, ◌<◌, ◌^◌, Bool,
 use Rattle.std.proofs.Math.Path.{fun_ext}
 use Rattle.std.proofs.lemmas.Option.{slice_get_within}
 use Rattle.std.specs.Prelude.{option_map, option_to_list}
+use Rattle.ddf_lemmas.proofs.Lists.{in_map}
 use Rattle.ddf_bay.specs.Sectors.{Image, IsLeft}
 use Rattle.ddf_bay.specs.State.{BayState}
 use Rattle.ddf_config.specs.declared.seat.Seat.{Seat}
@@ -17,9 +18,7 @@ use Rattle.ddf_cells.specs.Alike.{AreAlike}
 use Rattle.ddf_cells.proofs.Alike.{value_same}
 use Rattle.ddf_data_array.specs.Allowed.{Allowed, once_consistent}
 use Rattle.ddf_data_group.specs.Grouped.{Promises}
-use Rattle.ddf_data_group.proofs.Clearly.{lies_of}
 use Rattle.ddf_data_group.proofs.Entries.{guid_is}
-use Rattle.ddf_rewrite.proofs.Lists.{map_get}
 use Rattle.ddf_history.specs.Groups.{groups}
 use Rattle.ddf_history.specs.Issued.{Past}
 use Rattle.ddf_steps.specs.Committed.{AreSettled, slots_of}
@@ -48,15 +47,16 @@ use Rattle.ddf_data_calls.proofs.Both as both
 use Rattle.ddf_data_calls.proofs.Both.{IsSplit}
 use Rattle.ddf_data_calls.proofs.First.{IsCalled}
 use Rattle.ddf_data_calls.proofs.ByWrite.{by_resync}
-use Rattle.ddf_data_calls.proofs.OneArray.{fewer_kept}
 use Rattle.ddf_data_calls.proofs.Prepared as prepared
 use Rattle.ddf_data_calls.proofs.Staged as staged
 use Rattle.ddf_data_calls.proofs.Staged.{IsCarried}
 use Rattle.ddf_read_commands.proofs.ArrayUse.{named_is}
 use Rattle.ddf_bay.specs.Moments.{StopsLeave}
 use Rattle.ddf_recovery.specs.Ready.{readied}
+use Rattle.ddf_rebuild.proofs.Aiming.{cell_lies}
 use Rattle.ddf_data_calls.specs.Floors.{AllHaveFloors, HaveFloorsIn}
 use Rattle.ddf_data_calls.proofs.Floored.{floors_along}
+use Rattle.ddf_data_calls.proofs.Begun.{fewer_keep}
 
 -- ---- promises that stay
 
@@ -140,7 +140,7 @@ module _ {D : Type 0} (tells : Type 0) (told : tells) (old new : BayState D) (gr
           → staged.LeftAt tells old new group past floor promises resynced.taken.left resynced.taken.newest named found called timestamp word
           (resync_request word) plan (resync_behind plan.entry) (Some (Unmark plan.entry.0 wholly)) is_split resyncing by_resync carried stage image → KeepsData group now floor image promises
       stays image are stage now come left_at =
-          fewer_kept group now floor image (with_allowed by_resync.next plan.entry.0 promises) promises (same_allowed plan.entry.0 promises)
+          fewer_keep group now floor image (with_allowed by_resync.next plan.entry.0 promises) promises (same_allowed plan.entry.0 promises)
           (staged.stage_keeps tells old new group past floor promises resynced.taken.left resynced.taken.newest named found called timestamp word (resync_request word) plan (resync_behind plan.entry)
           (Some (Unmark plan.entry.0 wholly)) is_split resyncing by_resync carried image are stage now come left_at)
 
@@ -160,9 +160,9 @@ module _ {D : Type 0} (tells : Type 0) (told : tells) (old new : BayState D) (gr
     held_alike : (image : Image) → IsLeft new.may_hold image → AreAlike plan.volume image new.held
     held_alike image left slot lba cell =
         let on = both.cells_on group old past floor promises resynced.taken.left resynced.taken.newest named found called timestamp plan.entry (resync_behind plan.entry) (Some (Unmark plan.entry.0 wholly))
-        plan.first plan.last plan.volume is_split slot lba (record { element = cell.element; position = cell.position; sector = cell.sector; lies = lies_of plan.volume slot lba cell }) in
+        plan.first plan.last plan.volume is_split slot lba (record { element = cell.element; position = cell.position; sector = cell.sector; lies = cell_lies plan.volume slot lba cell }) in
         let placed = slot_placed (slots_of found.seats) slot on.0 in
-        let seat = map_get (λ (one : Seat). one.slot) found.seats placed.0 slot placed.1 in
+        let seat = in_map (λ (one : Seat). one.slot) found.seats placed.0 slot placed.1 in
         let sure = settled placed.0 seat.0 (slice_get_within found.seats placed.0 seat.0 seat.1) seat.1 in
         subst (λ (s : ℕ). image s lba ≡ new.held s lba) seat.2 (sure lba (image seat.0.slot lba) (left seat.0.slot lba))
 
@@ -186,7 +186,7 @@ module _ {D : Type 0} (tells : Type 0) (told : tells) (old new : BayState D) (gr
               let same : once_consistent plan.volume image ≡ once_consistent plan.volume new.held =
               fun_ext (λ (block : ℕ). ap (option_map (λ bytes. bytes ∷ [])) (value_same plan.volume is_split.known image new.held (held_alike image left) block)) in
               subst (λ (a : Allowed). KeepsData group end.now floor image (with_promise promises plan.entry.0 (Some a))) same
-              (fewer_kept group end.now floor image (with_promise (with_allowed by_resync.next plan.entry.0 promises) plan.entry.0 (Some (once_consistent plan.volume image)))
+              (fewer_keep group end.now floor image (with_promise (with_allowed by_resync.next plan.entry.0 promises) plan.entry.0 (Some (once_consistent plan.volume image)))
               (with_promise promises plan.entry.0 (Some (once_consistent plan.volume image)))
               (counted_same by_resync.next plan.entry.0 promises (once_consistent plan.volume image)) kept.0);
         }

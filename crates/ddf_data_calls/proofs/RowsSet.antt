@@ -23,17 +23,11 @@ use Rattle.ddf_rebuild.specs.Target.{IsTarget, IsTargetCell}
 use Rattle.ddf_rebuild.proofs.Aiming.{same_target}
 use Rattle.ddf_rebuild.proofs.Kept.{alike_rebuilding}
 use Rattle.ddf_repair.specs.declared.first.Target.{Target}
+use Rattle.ddf_rebuild.proofs.Common.{fewer_rows}
 use Rattle.ddf_group_commands.specs.Written.{AreWritten}
 use Rattle.ddf_rebuild_command.specs.Rounds.{AreRounds, IsFilled, Round, row_before}
 
 -- ---- rows
-
--- rows of which the first count
-fewer_rows : (v : Volume) (element position few many : ℕ) (image : Image) → few ≤ many → HasRebuilt v element position 0 many image image → HasRebuilt v element position 0 few image image
-fewer_rows v element position few many image le set part place slot sector target rows =
-    let to = rows.to_is in
-    let grows : few * height_of part.shape ≤ many * height_of part.shape = mul-le-mul_right (height_of part.shape) le in
-    set part place slot sector target (record { from_is = rows.from_is; to_is = omega (arith, to, grows); below = rows.below })
 
 -- sectors at more rows
 pub wider_cell : (v : Volume) (element position from to first last slot lba : ℕ) → first ≤ from → to ≤ last → IsTargetCell v element position from to slot lba → IsTargetCell v element position first last slot lba

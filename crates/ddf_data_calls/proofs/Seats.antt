@@ -3,6 +3,7 @@ use Rattle.std.proofs.Common.{◌≡◌, ◌∙◌, ◌⊎◌, inl, inr, ℕ, ze
 use Rattle.std.proofs.lemmas.Bool.{eqb-true}
 use Rattle.std.specs.Prelude.{option_map, slice_get}
 use Rattle.std.specs.Option.{option_and_then}
+use Rattle.ddf_lemmas.proofs.Tests.{and_second}
 use Rattle.ddf_bay.specs.State.{BayState, on_slot, size_of}
 use Rattle.ddf_config.specs.declared.seat.Seat.{Seat}
 use Rattle.ddf_config.specs.Configuration.{Configuration}
@@ -11,7 +12,6 @@ use Rattle.ddf_copy.specs.declared.copy.DiskCopy.{DiskCopy}
 use Rattle.ddf_copy.specs.declared.newest_copy.Newest.{Newest}
 use Rattle.ddf_copy.specs.Copies.{newest_at, standing_copy}
 use Rattle.ddf_array.specs.Losing.{AreFewer}
-use Rattle.ddf_array.proofs.Bools.{and_second}
 use Rattle.ddf_view.specs.View.{View, view_of}
 use Rattle.ddf_plan.specs.Lose.{is_among}
 use Rattle.ddf_rewrite.proofs.AllWanted.{filter_map_get}
@@ -42,6 +42,7 @@ use Rattle.ddf_data_history.proofs.Seats.{found, has_seat, is_found, seat_of as 
 use Rattle.ddf_data_disks.specs.Seats.{AreOnSlots}
 use Rattle.ddf_write_commands.proofs.BelowSteps.{IsFloored}
 use Rattle.ddf_history_steps.specs.Floors.{HasFloor}
+use Rattle.ddf_data_disks.proofs.Ended.{IsFoundAt}
 use Rattle.ddf_data_calls.specs.Floors.{HaveFloors}
 
 -- ---- seats of a history
@@ -57,12 +58,6 @@ module _ (group : List ℕ) (past : Past (groups group)) (config : Configuration
 
   abbrev pub AreListed : List Seat → Type 0
   AreListed seats = (place : ℕ) (seat : Seat) → slice_get seats place ≡ Some seat → IsListed seat
-
--- a seat that is found is one of them
-pub record IsFoundAt (seats : List Seat) (reference : ℕ) (seat : Seat) : Type 0 where
-  pub place : ℕ
-  pub is_at : slice_get seats place ≡ Some seat
-  pub is_reference : seat.reference ≡ reference
 
 pub found_at : (seats : List Seat) (reference : ℕ) (seat : Seat) → find (λ (s : Seat). nat_eq s.reference reference) seats ≡ Some seat → IsFoundAt seats reference seat
 found_at [] reference seat e = absurd (cc)

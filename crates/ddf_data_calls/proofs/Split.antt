@@ -2,6 +2,7 @@
 use Rattle.std.proofs.Common.{◌≡◌, ◌⊎◌, ◌∙◌, inl, inr, ⊎_elim, ℕ, ◌≤◌, Bool, true, false, List, [], ◌∷◌, ◌++◌, length, map, Option, Some, None, Result, Ok, Err, if◌then◌else◌, refl, ap, sym, subst, arith, append_assoc}
 use Rattle.std.proofs.lemmas.List.{append_cancel_left}
 use Rattle.std.specs.Prelude.{option_to_list, slice_get}
+use Rattle.ddf_lemmas.proofs.Lists.{same_rest}
 use Rattle.ddf_bay.specs.Sectors.{Image}
 use Rattle.ddf_config.specs.declared.refusal.Refusal.{Refusal}
 use Rattle.ddf_config.specs.declared.seat.Seat.{Seat}
@@ -23,19 +24,14 @@ use Rattle.ddf_seats.specs.Seated.{levelled}
 use Rattle.ddf_recovery.proofs.ReadiedSteps.{are_tried, behind, steps_are}
 use Rattle.ddf_history_steps.specs.Going.{IsOver, changes_in}
 use Rattle.ddf_history_steps.proofs.LastIssued.{over_last}
+use Rattle.ddf_history_steps.proofs.CommittingGoes.{changes_of_both}
+use Rattle.ddf_history_steps.proofs.LastStep.{configs}
 use Rattle.ddf_write_commands.specs.Around.{config_behind}
-use Rattle.ddf_write_commands.proofs.Parts.{issued_parts}
 use Rattle.ddf_data_calls.specs.Calls.{AreMade, MayAsk}
 use Rattle.ddf_data_calls.proofs.Begun.{done_is, last_of}
-use Rattle.ddf_data_calls.proofs.Steps.{asked_made, configs, few_asked, issued_are}
+use Rattle.ddf_data_calls.proofs.Steps.{asked_made, few_asked, issued_are}
 
 -- ---- lists
-
-same_first : {X : Type 0} (one other : X) (xs ys : List X) → one ∷ xs ≡ other ∷ ys → one ≡ other
-same_first one other xs ys e = cc
-
-same_rest : {X : Type 0} (one other : X) (xs ys : List X) → one ∷ xs ≡ other ∷ ys → xs ≡ ys
-same_rest one other xs ys e = cc
 
 configs_parts : (one other : List Step) → configs (one ++ other) ≡ configs one ++ configs other
 configs_parts [] other = refl
@@ -151,7 +147,7 @@ module _ (found : GroupValue) (timestamp : ℕ) (mark : Option Change) (asked : 
   pub last_issued : changes_in found last ≡ configs last
   last_issued =
       append_cancel_left (changes_in found first) (changes_in found last) (configs last)
-      (sym (issued_parts found first last) ∙ issued_are found (option_to_list mark ++ asked) timestamp (first ++ last) are_all
+      (sym (changes_of_both found first last) ∙ issued_are found (option_to_list mark ++ asked) timestamp (first ++ last) are_all
       ∙ by (some found.absent) ∙ ap (λ (all : List Configuration). all ++ configs last) (sym (issued_are found (option_to_list mark) timestamp first are_first)))
     where
       by : (absent : Bool)

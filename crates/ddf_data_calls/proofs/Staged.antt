@@ -21,6 +21,7 @@ use Rattle.ddf_seats.specs.Group.{GroupValue}
 use Rattle.ddf_seats.specs.Leading.{some}
 use Rattle.ddf_history_steps.specs.Going.{Ends, Goes, IsOver, changes_in}
 use Rattle.ddf_history_steps.specs.Kept.{is_read}
+use Rattle.ddf_history_steps.proofs.CommittingGoes.{changes_of_both}
 use Rattle.ddf_data_history.specs.Promised.{KeepsData}
 use Rattle.ddf_answer.specs.Call.{work_of}
 use Rattle.ddf_group_commands.specs.Change.{Request}
@@ -40,7 +41,6 @@ use Rattle.ddf_data_calls.proofs.Carried.{Carrying}
 use Rattle.ddf_data_calls.proofs.Gone.{acked_goes, acked_over, goes_more, issued_goes, over_goes, steps_lose}
 use Rattle.ddf_data_calls.proofs.OneArray.{weaker_promised}
 use Rattle.ddf_data_calls.proofs.Split.{last_few}
-use Rattle.ddf_write_commands.proofs.Parts.{issued_parts}
 
 -- How a command's work is one that carries data: what it may give sectors, and what is sure once it is done.
 pub record IsCarried {D : Type 0} (old new : BayState D) (promises : Promises) (guid : List ℕ) (doing : Doing) (carrying : Carrying) (v : Volume) : Type 1 where
@@ -177,13 +177,13 @@ module _ {D : Type 0} (tells : Type 0) (old new : BayState D) (group : List ℕ)
 
   pub goes_at : (stage : Stage) (now : Past (groups group)) → HasCome group doing (work_of tells old new) past left found plan stage now
       → Goes group past (is_read left) found (changes_in found (plan.first ++ plan.last)) now
-  goes_at stage now come = subst (λ (all : List Configuration). Goes group past (is_read left) found all now) (sym (issued_parts found plan.first plan.last)) (stage_goes stage now come)
+  goes_at stage now come = subst (λ (all : List Configuration). Goes group past (is_read left) found all now) (sym (changes_of_both found plan.first plan.last)) (stage_goes stage now come)
 
   -- and at the end.
   pub ends_at : (done : Bool) (stage : Stage) (now : Past (groups group)) → (done ≡ true → stage ≡ Done) → HasCome group doing (work_of tells old new) past left found plan stage now
       → Ends group past (is_read left) found (changes_in found (plan.first ++ plan.last)) done now
   ends_at true stage now is_over come =
-      subst (λ (all : List Configuration). IsOver group past (is_read left) found all now) (sym (issued_parts found plan.first plan.last)) (done_over stage (is_over refl) now come)
+      subst (λ (all : List Configuration). IsOver group past (is_read left) found all now) (sym (changes_of_both found plan.first plan.last)) (done_over stage (is_over refl) now come)
   ends_at false stage now is_over come = goes_at stage now come
 
   module _ (May Is : Promises → Type 0) (done : Bool) (along : ComesAlong group doing (work_of tells old new) past left found plan done) (whole : (image : Image) → IsLeft new.may_hold image → AreSectors image)

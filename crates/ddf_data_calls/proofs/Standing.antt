@@ -3,6 +3,7 @@ use Rattle.std.proofs.Common.{◌≡◌, ◌∙◌, ℕ, ◌+◌, ◌<◌, ◌^�
 use Rattle.std.proofs.Math.Path.{fun_ext}
 use Rattle.std.specs.Prelude.{slice_get}
 use Rattle.std.specs.List.{range_with_len}
+use Rattle.std.specs.Cmp.Derive.{one_truth}
 use Rattle.ddf_bay.specs.Sectors.{Image, IsLeft}
 use Rattle.ddf_bay.specs.State.{BayState}
 use Rattle.ddf_config.specs.declared.member.Member.{Member}
@@ -42,17 +43,11 @@ use Rattle.ddf_data_calls.proofs.Recovered.{recovered_alike}
 
 -- ---- members
 
-same_bool : (a b : Bool) → (a ≡ true → b ≡ true) → (b ≡ true → a ≡ true) → a ≡ b
-same_bool true true to back = refl
-same_bool true false to back = sym (to refl)
-same_bool false true to back = back refl
-same_bool false false to back = refl
-
 -- a change that loses no member makes none current either
 pub kept_current : (group : List ℕ) (config : Configuration) (change : Change) → ((reference : ℕ) (member : Member) → (member_after config change reference member).missing ≡ member.missing) → (sequence : ℕ) (disk : Disk)
     → has_current (changed_at config change sequence) disk ≡ has_current config disk
 kept_current group config change same sequence disk =
-    same_bool (has_current (changed_at config change sequence) disk) (has_current config disk)
+    one_truth (has_current (changed_at config change sequence) disk) (has_current config disk)
     (λ is. let follow = changes_follow group config change (config.sequence + 1) (omega arith) in follow.no_more disk is)
     (λ was. stays_current config change sequence disk was
     (current_same (member_after config change) same config.members disk.reference ∙ is_current_by config disk was))

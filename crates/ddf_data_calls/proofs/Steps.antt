@@ -1,8 +1,7 @@
 -- The steps that a call with one change makes, by what they make of the configuration and of the disks.
-use Rattle.std.proofs.Common.{◌≡◌, ◌⊎◌, ◌∙◌, inl, inr, ⊎_elim, ℕ, ◌<◌, ◌≤◌, ◌==◌, not, cond, Bool, true, false, List, [], ◌∷◌, ◌++◌, length, map, filter, Option, Some, None, Result, Ok, Err, if◌then◌else◌, refl, ap, sym, subst, arith}
-use Rattle.std.proofs.lemmas.Bool.{eq-eqb, ne_eqb}
+use Rattle.std.proofs.Common.{◌≡◌, ◌⊎◌, ◌∙◌, inl, inr, ⊎_elim, ℕ, ◌≤◌, Bool, true, false, List, [], ◌∷◌, ◌++◌, length, Option, Some, None, Result, Ok, Err, if◌then◌else◌, refl, ap, sym, subst, arith}
+use Rattle.std.proofs.lemmas.Bool.{eq-eqb}
 use Rattle.std.specs.Prelude.{option_to_list}
-use Rattle.std.specs.List.{AllByRecursion}
 use Rattle.ddf_bay.specs.Sectors.{Image}
 use Rattle.ddf_config.specs.declared.refusal.Refusal.{Refusal}
 use Rattle.ddf_config.specs.declared.seat.Seat.{Seat}
@@ -13,7 +12,7 @@ use Rattle.ddf_plan.specs.Same.{is_step}
 use Rattle.ddf_data_group.specs.Grouped.{Promises}
 use Rattle.ddf_seats.specs.declared.seated.Seated.{Seated}
 use Rattle.ddf_seats.specs.Group.{GroupValue}
-use Rattle.ddf_steps.specs.Ready.{AreNumbered, steps_from, with_step}
+use Rattle.ddf_steps.specs.Ready.{steps_from, with_step}
 use Rattle.ddf_recovery.specs.Ready.{readied}
 use Rattle.ddf_recovery.specs.Recovery.{config_lost, config_recovered, disks_recovered, loss, lost_step, mending_step, recovery_of}
 use Rattle.ddf_seats.specs.Leading.{some}
@@ -22,13 +21,10 @@ use Rattle.ddf_steps.specs.Steps.{Step, raised, step_of}
 use Rattle.ddf_recovery.proofs.Numbered.{steps_numbered}
 use Rattle.ddf_recovery.proofs.ReadiedSteps.{are_tried, behind, loss_rises, none_spent, steps_are}
 use Rattle.ddf_history_steps.specs.Going.{changes_in}
+use Rattle.ddf_history_steps.proofs.LastStep.{AreAbove, configs, first_issued, above_issued, numbered_above}
 use Rattle.ddf_data_calls.specs.Calls.{AreMade, MayAsk}
 
 -- ---- the steps behind the recovery
-
--- what the steps make of the configuration, one after another
-abbrev pub configs : List Step → List Configuration
-configs steps = map (λ (step : Step). step.config) steps
 
 -- They are those of one change: none where it alters nothing.
 pub record AreOfChange (timestamp : ℕ) (config : Configuration) (disks : List Seated) (change : Change) (steps : List Step) : Type 0 where
@@ -74,34 +70,6 @@ module _ (timestamp : ℕ) (config : Configuration) (disks : List Seated) where
       (of_change change steps is).steps_are
 
 -- ---- the changes that a call issues
-
--- The sequence number of each of these steps is greater.
-abbrev AreAbove : ℕ → List Step → Type 0
-AreAbove sequence = AllByRecursion (λ (step : Step). sequence < step.config.sequence)
-
-numbered_above : (first sequence : ℕ) (steps : List Step) → first ≤ sequence → AreNumbered sequence steps → AreAbove first steps
-numbered_above first sequence [] le are = tt
-numbered_above first sequence (step ∷ steps) le are =
-    let more = are.0 in
-    (omega (arith, le, more), numbered_above first step.config.sequence steps (omega (arith, le, more)) are.2)
-
--- whether a step raises the sequence number
-abbrev raises : GroupValue → Step → Bool
-raises found step = not (step.config.sequence == found.config.sequence)
-
--- A step that does issues its configuration.
-first_issued : (found : GroupValue) (step : Step) (others : List Step) (same : Bool) → (step.config.sequence == found.config.sequence) ≡ same
-    → changes_in found (step ∷ others) ≡ (if same then changes_in found others else step.config ∷ changes_in found others)
-first_issued found step others true is = ap (λ (same : Bool). configs (cond (not same) (step ∷ filter (raises found) others) (filter (raises found) others))) is
-first_issued found step others false is = ap (λ (same : Bool). configs (cond (not same) (step ∷ filter (raises found) others) (filter (raises found) others))) is
-
--- Where all do each of them is issued.
-above_issued : (found : GroupValue) (steps : List Step) → AreAbove found.config.sequence steps → changes_in found steps ≡ configs steps
-above_issued found [] above = refl
-above_issued found (step ∷ steps) above =
-    let more = above.0 in
-    first_issued found step steps false (ne_eqb step.config.sequence found.config.sequence (λ same. omega (arith, more, same)))
-    ∙ ap (λ (others : List Configuration). step.config ∷ others) (above_issued found steps above.1)
 
 module _ (found : GroupValue) (changes : List Change) (timestamp : ℕ) (steps : List Step) (are : readied found changes timestamp ≡ Ok steps) where
   -- the steps behind the recovery

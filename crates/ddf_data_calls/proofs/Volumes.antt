@@ -1,17 +1,12 @@
 -- What every view keeps holds of an array over seats whose floors are numbers of sectors.
-use Rattle.std.proofs.Common.{◌≡◌, ◌∙◌, ℕ, ◌+◌, ◌*◌, ◌^◌, ◌<◌, ◌≤◌, Bool, true, false, List, [], ◌∷◌, map, length, filter_map, Option, Some, None, Ok, Err, refl, ap, sym, subst, if◌then◌else◌, arith, lit≤}
+use Rattle.std.proofs.Common.{◌≡◌, ◌∙◌, ℕ, ◌+◌, ◌^◌, ◌<◌, ◌≤◌, Bool, true, false, List, map, length, Option, Some, None, Ok, Err, refl, ap, sym, subst, if◌then◌else◌, arith}
 use borrow.Author.Tests.{leb-true}
 use Rattle.std.proofs.lemmas.Bool.{and_parts}
 use Rattle.std.proofs.lemmas.List.{length-map}
-use Rattle.std.proofs.lemmas.List.Elements.{All-cons, All-nil}
-use Rattle.std.proofs.lemmas.Nat.{mul-le}
 use Rattle.std.specs.Prelude.{nat_le, option_map, slice_get}
-use Rattle.std.specs.List.{cons_option}
 use Rattle.std.specs.Result.{result_ok}
+use Rattle.ddf_lemmas.proofs.Lists.{in_map}
 use Rattle.ddf_primary.specs.Placement.{Placement}
-use Rattle.ddf_primary.specs.Levels.{least_blocks}
-use Rattle.ddf_primary.specs.Cells.{cells, rows_of, unit_of}
-use Rattle.ddf_primary.proofs.ShapeFacts.{cells_le, rows_fit}
 use Rattle.ddf_secondary.specs.declared.element.ElementSize.{ElementSize}
 use Rattle.ddf_secondary.specs.declared.fault.TiersFault.TheVariants.{Count, Level, Mixed}
 use Rattle.ddf_secondary.specs.declared.level.SecondaryLevel.{SecondaryLevel}
@@ -23,8 +18,8 @@ use Rattle.ddf_config.specs.Configuration.{Configuration}
 use Rattle.ddf_config.specs.ElementValue.{ElementValue}
 use Rattle.ddf_config.specs.Members.{same_guid}
 use Rattle.ddf_config.specs.Seats.{floor_of, slot_of}
-use Rattle.ddf_config.specs.Shapes.{IsSmall, element_shape, part_size, secondary_level, shape_size, sizes}
-use Rattle.ddf_config.proofs.Capacity.{AreFew}
+use Rattle.ddf_config.specs.Shapes.{element_shape, secondary_level, sizes}
+use Rattle.ddf_config.proofs.Capacity.{sizes_small}
 use Rattle.ddf_array.specs.declared.part.Part.{Part}
 use Rattle.ddf_array.specs.declared.place.Place.{Place}
 use Rattle.ddf_array.specs.Places.{Ends}
@@ -34,38 +29,8 @@ use Rattle.ddf_array.proofs.Shapes.{blocks_are, is_shape, members_are}
 use Rattle.ddf_array.proofs.Sizes.{tiers_sizes}
 use Rattle.ddf_array.proofs.Viewed.{from_view}
 use Rattle.ddf_rewrite.proofs.AllWanted.{filter_map_get}
-use Rattle.ddf_rewrite.proofs.Lists.{all_at, map_get}
+use Rattle.ddf_rewrite.proofs.Lists.{all_at}
 use Rattle.ddf_data_calls.proofs.Few.{ArraysFew, looked_few}
-
--- ---- sizes
-
-shape_small : (elements : ℕ) (element : ElementValue) (shape : Placement) → element_shape elements element ≡ Some shape → length element.positions ≤ 64 → IsSmall (shape_size shape)
-shape_small elements element shape made few =
-    let sound = is_shape elements element shape made few in
-    let members = members_are elements element shape made in
-    let blocks : shape.blocks ≤ 2 ^ 48 = leb-true shape.blocks (2 ^ 48) (and_parts (nat_le (least_blocks shape.layout shape.strip) shape.blocks) (nat_le shape.blocks (2 ^ 48)) sound.blocks_taken).1 in
-    let all : length (cells shape) ≤ shape.members * shape.blocks = cells_le shape sound in
-    let rows : unit_of shape * rows_of shape ≤ length (cells shape) = rows_fit shape sound in
-    let most : shape.members * shape.blocks ≤ 64 * 2 ^ 48 = mul-le shape.members shape.blocks 64 (2 ^ 48) (omega (arith, members, few)) blocks in
-    let power : 64 * 2 ^ 48 ≤ 2 ^ 56 = lit≤ tt in
-    (omega (arith, all, most, power), omega (arith, all, rows, most, power))
-
-part_small : (elements : ℕ) (part : Option ElementValue) → ((plan : ElementValue) → part ≡ Some plan → length plan.positions ≤ 64)
-    → (size : ElementSize) → part_size elements part ≡ Some size → IsSmall size
-part_small elements None few size is = absurd cc
-part_small elements (Some element) few size is = by (element_shape elements element) refl is
-  where
-    by : (o : Option Placement) → element_shape elements element ≡ o → option_map shape_size o ≡ Some size → IsSmall size
-    by None made is = absurd cc
-    by (Some shape) made is = let same : shape_size shape ≡ size = cc in subst IsSmall same (shape_small elements element shape made (few element refl))
-
-sizes_small : (elements : ℕ) (parts : List (Option ElementValue)) → AreFew parts → AreSmall (filter_map (part_size elements) parts)
-sizes_small elements [] few = All-nil IsSmall
-sizes_small elements (part ∷ parts) few = by (part_size elements part) refl (sizes_small elements parts few.1)
-  where
-    by : (o : Option ElementSize) → part_size elements part ≡ o → AreSmall (filter_map (part_size elements) parts) → AreSmall (cons_option o (filter_map (part_size elements) parts))
-    by None at rest = rest
-    by (Some size) at rest = All-cons IsSmall size (filter_map (part_size elements) parts) (part_small elements part few.0 size at) rest
 
 -- ---- the whole
 
@@ -111,7 +76,7 @@ module _ (seats : List Seat) (small : (reference f : ℕ) → floor_of seats ref
     shape_is = is_shape elements element shape made few;
     has_places = length-map element.positions (place_of seats element.blocks) ∙ sym (members_are elements element shape made);
     ends = λ position place at.
-        let from = map_get (place_of seats element.blocks) element.positions position place at in
+        let from = in_map (place_of seats element.blocks) element.positions position place at in
         subst (λ (p : Place). Ends p shape.blocks) from.2
         (subst (λ (n : ℕ). Ends (place_of seats element.blocks from.0) n) (sym (blocks_are elements element shape made)) (place_ends element.blocks from.0));
   }

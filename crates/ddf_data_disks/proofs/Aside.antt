@@ -3,6 +3,7 @@ use Rattle.std.proofs.Common.{◌≡◌, ◌∙◌, ⊎_elim, ℕ, zero, suc, �
 use Rattle.std.proofs.Math.Path.{fun_ext}
 use Rattle.std.specs.Prelude.{nat_lt, option_map, if◌then◌else◌}
 use Rattle.std.proofs.lemmas.Bool.{false≢true}
+use Rattle.ddf_lemmas.proofs.Lists.{in_map, mapped_at}
 use Rattle.ddf_bay.specs.Sectors.{Image, IsLeft}
 use Rattle.ddf_bay.specs.State.{BayState, size_of}
 use Rattle.ddf_header.specs.declared.reading.Header.{Header}
@@ -16,14 +17,14 @@ use Rattle.ddf_copy.specs.Anchor.{anchor_at}
 use Rattle.ddf_copy.specs.Which.{place_of}
 use Rattle.ddf_copy.proofs.Stands.{place_within}
 use Rattle.ddf_group.specs.Shown.{shown_of}
-use Rattle.ddf_rewrite.proofs.Lists.{all_at, map_get}
+use Rattle.ddf_rewrite.proofs.Lists.{all_at}
 use Rattle.ddf_array.specs.Viewing.{view_of}
 use Rattle.ddf_array.specs.Volume.{Volume, IsVolume}
-use Rattle.ddf_array.proofs.Losses.{mapped_at}
 use Rattle.ddf_seats.specs.declared.seated.Seated.{Seated}
 use Rattle.ddf_steps.specs.Committed.{slots_of}
 use Rattle.ddf_seats.specs.Group.{GroupValue, floor_of}
 use Rattle.ddf_seats.specs.Seated.{seated}
+use Rattle.ddf_seats.proofs.Common.{floor_below}
 use Rattle.ddf_assembly.specs.Settled.{IsLevelIn}
 use Rattle.ddf_history.specs.Groups.{groups}
 use Rattle.ddf_history.specs.Issued.{Past}
@@ -36,7 +37,6 @@ use Rattle.ddf_history_steps.proofs.Slots.{slot_is, slot_placed}
 use Rattle.ddf_data_group.specs.Clear.{ChangesItsCells, IsItsCell}
 use Rattle.ddf_data_group.proofs.Clearly.{below_floor, used}
 use Rattle.ddf_data_disks.specs.Seats.{HaveFloors}
-use Rattle.ddf_data_disks.proofs.Records.{floor_below}
 use Rattle.ddf_data_disks.proofs.SlotReads.{IsReadSame, read_here, read_newest, read_past}
 
 -- ---- a settled group
@@ -78,7 +78,7 @@ module _ (group : List ℕ) {D : Type 0} (past : Past (groups group)) (disks : B
   disk_at : (place : ℕ) (seat : Seat) → slice_get found.seats place ≡ Some seat → (disk : Seated) × ((slice_get (seated found) place ≡ Some disk) × (disk.seat ≡ seat))
   disk_at place seat at =
       let there : slice_get (map (λ (disk : Seated). disk.seat) (seated found)) place ≡ Some seat = ap (λ (l : List Seat). slice_get l place) end.is_settled.are_seated ∙ at in
-      let own = map_get (λ (disk : Seated). disk.seat) (seated found) place seat there in
+      let own = in_map (λ (disk : Seated). disk.seat) (seated found) place seat there in
       (own.0, (own.1, own.2))
 
   seat_slot : (place : ℕ) (seat : Seat) → slice_get found.seats place ≡ Some seat → IsSeatSlot seat.slot
@@ -168,7 +168,7 @@ module _ (group : List ℕ) {D : Type 0} (past : Past (groups group)) (disks : B
       read_by : (slot : ℕ) (b : Bool) → is_slot (slots_of found.seats) slot ≡ b → IsReadSame (size_of disks slot) (image slot) (before slot)
       read_by slot true is =
           let placed = slot_placed (slots_of found.seats) slot is in
-          let own = map_get (λ (s : Seat). s.slot) found.seats placed.0 slot placed.1 in
+          let own = in_map (λ (s : Seat). s.slot) found.seats placed.0 slot placed.1 in
           subst (λ (s : ℕ). IsReadSame (size_of disks s) (image s) (before s)) own.2 (seat_read placed.0 own.0 own.1)
       read_by slot false is = read_here (size_of disks slot) (image slot) (before slot) (other_same slot is)
 

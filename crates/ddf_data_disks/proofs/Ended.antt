@@ -3,6 +3,8 @@ use Rattle.std.proofs.Common.{◌≡◌, ◌∙◌, inr, ℕ, zero, suc, ◌<◌
 use Rattle.std.specs.Prelude.{is_some, option_map, if◌then◌else◌}
 use Rattle.std.specs.Map.{lookup}
 use Rattle.std.proofs.lemmas.Bool.{eqb-true, eq-eqb}
+use Rattle.ddf_lemmas.proofs.Lists.{in_map}
+use Rattle.ddf_lemmas.proofs.Tests.{and_first, and_second}
 use Rattle.ddf_bay.specs.Sectors.{Image}
 use Rattle.ddf_bay.specs.State.{BayState}
 use Rattle.ddf_config.specs.declared.member.Member.{Member}
@@ -11,9 +13,8 @@ use Rattle.ddf_config.specs.Configuration.{Configuration}
 use Rattle.ddf_config.specs.Seats.{floor_of, slot_of}
 use Rattle.ddf_copy.specs.declared.newest_copy.Newest.TheVariants as newests
 use Rattle.ddf_view.specs.View.{view_of}
-use Rattle.ddf_rewrite.proofs.Lists.{all_at, map_get}
+use Rattle.ddf_rewrite.proofs.Lists.{all_at}
 use Rattle.ddf_array.specs.Apart.{AreSeats}
-use Rattle.ddf_array.proofs.Bools.{and_first, and_second}
 use Rattle.ddf_seats.specs.declared.seated.Seated.{Seated}
 use Rattle.ddf_steps.specs.Committed.{slots_of}
 use Rattle.ddf_seats.specs.Group.{GroupValue}
@@ -36,7 +37,7 @@ use Rattle.ddf_data_disks.proofs.Alike.{arrays_same, turned}
 
 -- ---- seats that are found
 
-record IsFoundAt (seats : List Seat) (reference : ℕ) (seat : Seat) : Type 0 where
+pub record IsFoundAt (seats : List Seat) (reference : ℕ) (seat : Seat) : Type 0 where
   pub place : ℕ
   pub is_at : slice_get seats place ≡ Some seat
   pub is_reference : seat.reference ≡ reference
@@ -53,7 +54,7 @@ found_at (first ∷ seats) reference seat e = by (nat_eq first.reference referen
     by false is e later = let rest = later e in record { place = suc rest.place; is_at = rest.is_at; is_reference = rest.is_reference }
 
 -- one that is there is found, or another of its reference
-find_one : (seats : List Seat) (reference place : ℕ) (seat : Seat) → slice_get seats place ≡ Some seat → seat.reference ≡ reference → find (λ (s : Seat). nat_eq s.reference reference) seats ≡ None → ⊥
+pub find_one : (seats : List Seat) (reference place : ℕ) (seat : Seat) → slice_get seats place ≡ Some seat → seat.reference ≡ reference → find (λ (s : Seat). nat_eq s.reference reference) seats ≡ None → ⊥
 find_one [] reference place seat at same none = cc
 find_one (first ∷ seats) reference place seat at same none = by (nat_eq first.reference reference) refl place at none (λ k there rest. find_one seats reference k seat there same rest)
   where
@@ -111,7 +112,7 @@ module _ (group : List ℕ) {D : Type 0} (past : Past (groups group)) (disks : B
   pub of_seat : (place : ℕ) (seat : Seat) → slice_get group_found.seats place ≡ Some seat → IsMemberSeat seat
   of_seat place seat at =
       let there : slice_get (map (λ (disk : Seated). disk.seat) (seated group_found)) place ≡ Some seat = ap (λ (l : List Seat). slice_get l place) end.is_settled.are_seated ∙ at in
-      let own = map_get (λ (disk : Seated). disk.seat) (seated group_found) place seat there in
+      let own = in_map (λ (disk : Seated). disk.seat) (seated group_found) place seat there in
       subst IsMemberSeat own.2 (of_disk place own.0 own.1)
 
   some_by : (o : Option Member) → ◌≡◌ {A = Bool} (elim o [ None ↦ false | Some member ↦ not member.missing ]) true → is_some o ≡ true
@@ -174,7 +175,7 @@ module _ (group : List ℕ) {D : Type 0} (past : Past (groups group)) (disks : B
         let away = none_away (past.lost has.slot) (past.returned has.slot) (and_first (not (past.lost has.slot)) (has_current group_found.config (past.disk has.slot)) has.is_here)
         (λ back. (groups_are_sound group).not_both group_found.config (past.disk has.slot) current ((kept).gone has.slot past.changes.acked group_found.config back since)) in
         let placed = slot_placed (slots_of group_found.seats) has.slot (end.are_seated has.slot away current) in
-        let own = map_get (λ (s : Seat). s.slot) group_found.seats placed.0 has.slot placed.1 in
+        let own = in_map (λ (s : Seat). s.slot) group_found.seats placed.0 has.slot placed.1 in
         let is_own = of_seat placed.0 own.0 own.1 in
         absurd (find_one group_found.seats reference placed.0 own.0 own.1 (named own.0 has.slot reference is_own own.2 has.is_reference) none)
 

@@ -1,24 +1,20 @@
 -- What a stop leaves of slots that get new copies changes nothing below their floors.
-use Rattle.std.proofs.Common.{◌≡◌, ◌∙◌, ◌⊎◌, inl, inr, ⊎_elim, ℕ, zero, suc, ◌-◌, ◌<◌, ◌≤◌, ◌^◌, Bool, true, false, List, [], ◌∷◌, Some, refl, sym, ap, arith, length, slice_get}
+use Rattle.std.proofs.Common.{◌≡◌, ◌∙◌, ◌⊎◌, inl, inr, ⊎_elim, ℕ, ◌<◌, ◌≤◌, ◌^◌, Bool, true, false, List, Some, refl, sym, ap, arith, slice_get}
 use Rattle.std.specs.Prelude.{if◌then◌else◌}
 use Rattle.std.proofs.lemmas.Bool.{cases_lt}
+use Rattle.std.proofs.lemmas.Option.{slice_get_within}
+use Rattle.ddf_lemmas.proofs.Lists.{some_at_place}
 use Rattle.ddf_bay.specs.Sectors.{Image, IsLeft}
 use Rattle.ddf_bay.specs.State.{BayState, size_of}
-use Rattle.ddf_copy.specs.declared.copy.DiskCopy.{DiskCopy}
-use Rattle.ddf_copy.specs.declared.run.Run.{Run}
-use Rattle.ddf_copy.specs.declared.which.Which.{Which}
-use Rattle.ddf_copy.specs.declared.which.Which.TheVariants.{Primary, Secondary}
-use Rattle.ddf_copy.specs.Runs.{IsInCopy, RunsCover}
-use Rattle.ddf_copy.specs.Which.{other_of, place_of}
 use Rattle.ddf_update.specs.declared.prepared.Mode.{Mode}
 use Rattle.ddf_update.specs.declared.prepared.Mode.TheVariants.{Adopt, Change, Found, Move}
 use Rattle.ddf_update.specs.declared.prepared.Prepared.{Prepared}
 use Rattle.ddf_update.specs.Changes.{IsGetting, IsLeftChangingAll, MayChangeAll, SlotChange}
-use Rattle.ddf_update.specs.Prepared.{IsPrepared, writes_anchor, written_first}
+use Rattle.ddf_update.specs.Prepared.{writes_anchor}
 use Rattle.ddf_update.specs.Update.{IsWritten}
 use Rattle.ddf_array.specs.Sound.{AreSectors}
 use Rattle.ddf_steps.specs.Committed.{synced}
-use Rattle.ddf_seats.specs.Group.{floor_of}
+use Rattle.ddf_steps.proofs.Common.{written_past}
 use Rattle.ddf_history.specs.Groups.{groups}
 use Rattle.ddf_history.specs.Issued.{Past}
 use Rattle.ddf_history_steps.specs.Kept.{is_slot, unwritten}
@@ -29,41 +25,7 @@ use Rattle.ddf_data_history.specs.Promised.{KeepsData, SameBelow}
 use Rattle.ddf_data_history.proofs.Steps.{below_floors}
 use Rattle.ddf_data_disks.specs.Writing.{LieAtFloors}
 
--- ---- what is written of a copy
-
-covered : (lba : ℕ) (runs : List Run) (l : ℕ) → RunsCover lba runs l → lba ≤ l
-covered lba [] l is = absurd is
-covered lba (run ∷ runs) l is = ⊎_elim (λ here. omega (arith, here.0)) (λ later. covered lba runs l later) is
-
-in_copy : (lba : ℕ) (runs : List Run) (l : ℕ) → IsInCopy lba runs l → lba ≤ l
-in_copy lba runs l is = ⊎_elim (λ head. omega (arith, head)) (λ rest. covered lba runs l rest) is
-
-pub floor_below : (copy : DiskCopy) (which : Which) → floor_of copy ≤ place_of which copy.header
-floor_below copy Primary = omega arith
-floor_below copy Secondary = omega arith
-
--- it lies at or past the floor, or is the last sector
-pub written_past : (copy : DiskCopy) (last : Which) (mode : Mode) (update : Prepared) (size l : ℕ) → IsPrepared copy last mode update → IsWritten size update l
-    → (floor_of copy ≤ l) ⊎ ((writes_anchor mode ≡ true) × (l ≡ size - 1))
-written_past copy last mode update size l is written =
-    ⊎_elim
-    (λ either. inl (⊎_elim
-    (λ first. let lba = in_copy update.first.lba update.runs l first in let low = floor_below copy (written_first mode last) in omega (arith, lba, is.first_is.lba_is, low))
-    (λ second. let lba = in_copy update.second.lba update.runs l second in let low = floor_below copy (other_of (written_first mode last)) in omega (arith, lba, is.second_is.lba_is, low))
-    either))
-    (λ anchor. inr (ap writes_anchor (sym is.mode_is) ∙ anchor.0, anchor.1)) written
-
 -- ---- what a stop leaves of several slots
-
-at_place : {X : Type 0} (xs : List X) (k : ℕ) → k < length xs → (x : X) × (slice_get xs k ≡ Some x)
-at_place [] k below = absurd (omega (arith, below))
-at_place (x ∷ xs) zero below = (x, refl)
-at_place (x ∷ xs) (suc k) below = at_place xs k (omega (arith, below))
-
-within : {X : Type 0} (xs : List X) (k : ℕ) (x : X) → slice_get xs k ≡ Some x → k < length xs
-within [] k x at = absurd (cc)
-within (y ∷ xs) zero x at = omega arith
-within (y ∷ xs) (suc k) x at = omega (arith, within xs k x at)
 
 module _ {D : Type 0} (start : BayState D) (slots : List ℕ) (seat : ℕ → SlotChange) (updates : List Prepared) (image : Image) (left : IsLeftChangingAll start slots seat updates image) where
   -- a slot that isn't written is as it might be left, and the others as they are held
@@ -110,7 +72,7 @@ module _ {D : Type 0} (start : BayState D) (slots : List ℕ) (seat : ℕ → Sl
         by false is = refl
         by true is =
             let placed = slot_placed slots s is in
-            let update = at_place updates placed.0 (omega (arith, within slots placed.0 s placed.1, lie.counted)) in
+            let update = some_at_place updates placed.0 (omega (arith, slice_get_within slots placed.0 s placed.1, lie.counted)) in
             ⊎_elim (λ same. same) (λ written. absurd (omega (arith, below, past_floor placed.0 s l update.0 placed.1 update.1 written))) (by_turn placed.0 s l update.0 placed.1 update.1)
 
 -- ---- the data are kept

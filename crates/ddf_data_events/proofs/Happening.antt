@@ -8,7 +8,6 @@ use Rattle.ddf_bay.specs.Sectors.{Image, IsLeft}
 use Rattle.ddf_bay.specs.State.{BayState}
 use Rattle.ddf_array.specs.Sound.{AreSectors}
 use Rattle.ddf_array.specs.Values.{given}
-use Rattle.ddf_array.proofs.Bools.{and_first, and_second, not_true}
 use Rattle.std.specs.Map.{lookup}
 use Rattle.ddf_config.specs.declared.array.Array.{Array}
 use Rattle.ddf_config.specs.Members.{same_guid}
@@ -41,8 +40,9 @@ use Rattle.ddf_data_events.proofs.Bays.{AreBays, held_sectors, sectors}
 use Rattle.ddf_data_events.proofs.Calls.{sound as sound_of}
 use Rattle.ddf_data_events.proofs.Floors.{by_image, by_slots}
 use Rattle.ddf_data_events.proofs.Sound.{cuts_acked, ends_acked}
-use Rattle.std.proofs.lemmas.Bool.{eqb-true}
+use Rattle.std.proofs.lemmas.Bool.{eqb-true, not-true}
 use Rattle.std.specs.Prelude.{slice_index}
+use Rattle.ddf_lemmas.proofs.Tests.{and_first, and_second}
 use Rattle.ddf_history.proofs.Sound.{groups_are_sound}
 use Rattle.ddf_history_steps.specs.Floors.{HasFloor}
 use Rattle.ddf_data_calls.specs.Floors.{HaveFloorsIn}
@@ -60,7 +60,7 @@ floors_keep guid past floor other same image promises keeps number config since 
         by : (here : Bool) → is_seat guid past config slot ≡ here → seat_if here floor (past.disk slot) slot ≡ seat_if here other (past.disk slot) slot
         by true is =
             ap (λ (f : ℕ). Some (record { reference = (past.disk slot).reference; slot = slot; floor = f; bad = 0 }))
-            (sym (same slot number config since (not_true (past.lost slot) (and_first (not (past.lost slot)) (has_current config (past.disk slot)) is))
+            (sym (same slot number config since (not-true (past.lost slot) (and_first (not (past.lost slot)) (has_current config (past.disk slot)) is))
             (and_second (not (past.lost slot)) (has_current config (past.disk slot)) is)))
         by false is = refl
 

@@ -16,7 +16,7 @@ use Rattle.ddf_joining.specs.Joining.{Joining, bad_refusal, config_joining, full
 use Rattle.ddf_recovery.specs.Recovery.{config_lost, config_recovered, disks_recovered, full_of_recovery, loss_spent}
 use Rattle.ddf_seats.specs.Leading.{some}
 use Rattle.ddf_seats.specs.Seated.{seated}
-use Rattle.ddf_recovery.proofs.CommittedReadied.{raised_more}
+use Rattle.ddf_recovery.proofs.Numbered.{raised_above}
 use Rattle.ddf_import_command.specs.Import.{import_asked, joining_unless as asked_unless, keeps_disks}
 
 pub record IsUnrefused (timestamp : ℕ) (native other : GroupValue) (made : Joining) : Type 0 where
@@ -59,7 +59,7 @@ is_unrefused timestamp native other made ready =
           parts.0;
       rises = λ absent.
           let unspent : loss_spent native ≡ false = first_of (loss_spent native) (nat_lt greatest_sequence (join_config native other).sequence) parts.1 in
-          raised_more native.config.sequence 2 (omega arith)
+          raised_above native.config.sequence 2 (omega arith)
           (ltb-false greatest_sequence (config_lost native).sequence (sym (ap (λ (b : Bool). b && nat_lt greatest_sequence (config_lost native).sequence) absent) ∙ unspent));
       is_made = parts.2;
     }

@@ -1,15 +1,13 @@
 -- The steps of an import write nothing below the floors of the slots.
 use Rattle.std.proofs.Common.{◌≡◌, ◌∙◌, inl, ⊎_elim, ℕ, zero, suc, ◌+◌, Bool, List, [], ◌∷◌, ◌++◌, Option, Some, None, Ok, refl, ap, sym, subst, arith}
 use Rattle.std.specs.Prelude.{option_to_list, slice_get}
+use Rattle.ddf_lemmas.proofs.Lists.{all_from, first_get, in_either, in_second, mapped_at}
 use Rattle.ddf_bay.specs.Sectors.{IsLeft}
 use Rattle.ddf_bay.specs.State.{BayState, on_slot, size_of}
 use Rattle.ddf_config.specs.declared.seat.Seat.{Seat}
 use Rattle.ddf_copy.specs.declared.newest_copy.Newest.{Newest}
 use Rattle.ddf_copy.specs.Copies.{newest_at}
-use Rattle.ddf_array.proofs.Losses.{at_front}
-use Rattle.ddf_cells.proofs.Lists.{in_both}
-use Rattle.ddf_data_array.proofs.Ranges.{to_back}
-use Rattle.ddf_rewrite.proofs.Lists.{all_at, all_by_get, get_map}
+use Rattle.ddf_rewrite.proofs.Lists.{all_at}
 use Rattle.ddf_history.specs.Groups.{groups}
 use Rattle.ddf_history.specs.Issued.{Past}
 use Rattle.ddf_seats.specs.declared.seated.Seated.{Seated}
@@ -42,14 +40,14 @@ module _ (timestamp : ℕ) (native other : GroupValue) where
       record {
         place = own.place;
         before = own.before;
-        is_there = at_front (seated native) (seated other) own.place own.before own.is_there;
+        is_there = first_get (seated native) (seated other) own.place own.before own.is_there;
         same_slot = own.same_slot;
         same_floor = own.same_floor;
       }
 
   its_floors : HaveFloorsOf of_both (seated other)
   its_floors place disk at =
-      let there = to_back (seated native) (seated other) place disk at in
+      let there = in_second (seated native) (seated other) place disk at in
       record { place = there.0; before = disk; is_there = there.1; same_slot = refl; same_floor = refl }
 
   -- Each disk of the join has the floor of the one before it.
@@ -59,8 +57,8 @@ module _ (timestamp : ℕ) (native other : GroupValue) where
       after_floors of_both timestamp (join_leaders timestamp native other) (join_config native other) (join_disks timestamp native other) (λ place disk at.
       all_at (HasFloorOf of_both) (join_disks timestamp native other) place disk
       (both_have (HasFloorOf of_both) (disks_recovered timestamp native) (seated other)
-      (all_by_get (HasFloorOf of_both) (disks_recovered timestamp native) (own_floors (disks_recovered timestamp native) (recovered_floors native timestamp)))
-      (all_by_get (HasFloorOf of_both) (seated other) its_floors)) at)
+      (all_from (HasFloorOf of_both) (disks_recovered timestamp native) (own_floors (disks_recovered timestamp native) (recovered_floors native timestamp)))
+      (all_from (HasFloorOf of_both) (seated other) its_floors)) at)
 
   -- So has each of the recovery, and of both steps.
   pub steps_floors : (number : ℕ) (step : Step) → slice_get (import_steps (joining_of timestamp native other)) number ≡ Some step → HaveFloorsOf (seated native ++ seated other) step.disks
@@ -84,7 +82,7 @@ module _ (group : List ℕ) {D : Type 0} (old : BayState D) (past : Past (groups
   its_floor place disk at =
       let sits = seated_is other place disk at in
       let slot = disk.seat.slot in
-      let on = get_map (λ (seat : Seat). seat.slot) other.seats sits.place disk.seat sits.is_seat in
+      let on = mapped_at (λ (seat : Seat). seat.slot) other.seats sits.place disk.seat sits.is_seat in
       let has = theirs slot (inl (slot_is (slots_of other.seats) sits.place slot on)) (old.held slot) (held slot) in
       let there : slice_get (newest_from old 0 also_left) slot ≡ Some (Some sits.found) =
       ap (λ (all : List (Option Newest)). slice_get all slot) (sym (newest_kept also_newest also_named other is_found_too ∙ also_read)) ∙ sits.is_found in
@@ -93,4 +91,4 @@ module _ (group : List ℕ) {D : Type 0} (old : BayState D) (past : Past (groups
       record { same = has.same_floor sits.found disk.copy here sits.stands; within = has.within }
 
   pub both_floored : (place : ℕ) (disk : Seated) → slice_get (seated native ++ seated other) place ≡ Some disk → IsFloored (size_of old disk.seat.slot) floor disk
-  both_floored place disk at = ⊎_elim (λ mine. own mine.0 disk mine.1) (λ its. its_floor its.0 disk its.1) (in_both (seated native) (seated other) place disk at)
+  both_floored place disk at = ⊎_elim (λ mine. own mine.0 disk mine.1) (λ its. its_floor its.0 disk its.1) (in_either (seated native) (seated other) place disk at)

@@ -4,13 +4,15 @@ use Rattle.std.proofs.Math.Seq.{take-length}
 use Rattle.std.proofs.lemmas.Bool.{cases_lt, eq-eqb, ne_eqb}
 use Rattle.std.proofs.lemmas.List.{take-append-le}
 use Rattle.std.specs.Prelude.{option_to_list, slice_get}
+use Rattle.std.proofs.lemmas.Option.{slice_get_within}
+use Rattle.ddf_lemmas.proofs.Lists.{get_last}
 use Rattle.ddf_bay.specs.Sectors.{Image}
 use Rattle.ddf_config.specs.declared.seat.Seat.{Seat}
 use Rattle.ddf_config.specs.Configuration.{Configuration}
 use Rattle.ddf_data_group.specs.Grouped.{Promises}
 use Rattle.ddf_history.specs.Groups.{Disk, groups, has_current}
 use Rattle.ddf_history.specs.Issued.{IsSince, Past, acknowledge, issue, leave_out, take_off}
-use Rattle.ddf_history.proofs.Lists.{get_last, get_more, get_taken, get_within, taken_get}
+use Rattle.ddf_history.proofs.Lists.{get_more, get_taken, taken_get}
 use Rattle.ddf_seats.specs.Group.{GroupValue}
 use Rattle.ddf_recovery.specs.Recovery.{config_lost, config_recovered, loss, lost_step, mending_step, recovery_of}
 use Rattle.ddf_seats.specs.Leading.{some}
@@ -106,7 +108,7 @@ module _ (group : List ℕ) where
       → (n : ℕ) × (slice_get (issue_all group past changes).changes.issued n ≡ Some (last_of config changes)) × (number + length changes ≤ n)
   last_there past number config at [] = (number, at, omega arith)
   last_there past number config at (next ∷ others) =
-      let within = get_within past.changes.issued number config at in
+      let within = slice_get_within past.changes.issued number config at in
       let rest = last_there (issue past next) (length past.changes.issued) next (get_last past.changes.issued next) others in
       (rest.0, rest.1, let more = rest.2 in omega (arith, within, more))
 

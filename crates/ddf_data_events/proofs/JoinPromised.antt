@@ -2,6 +2,7 @@
 use Rattle.std.proofs.Common.{◌≡◌, ◌∙◌, ⊎_elim, ℕ, Bool, true, false, List, [], ◌∷◌, cond, Option, Some, None, slice_get, refl, ap, sym, subst, arith}
 use Rattle.std.specs.List.{AllByRecursion}
 use Rattle.std.specs.Map.{lookup}
+use Rattle.std.proofs.lemmas.Option.{slice_get_within}
 use Rattle.ddf_bytes.specs.Streams.{SourceState}
 use Rattle.ddf_bay.specs.Sectors.{Image, IsLeft}
 use Rattle.ddf_bay.specs.State.{BayState}
@@ -18,7 +19,6 @@ use Rattle.ddf_rewrite.proofs.Lists.{some_same}
 use Rattle.ddf_history.specs.Groups.{Disk, has_current}
 use Rattle.ddf_history.specs.Issued.{IsSince}
 use Rattle.ddf_history.specs.Scenes.{scene_of}
-use Rattle.ddf_history.proofs.Lists.{get_within}
 use Rattle.ddf_data_history.specs.Carried.{IsAllData}
 use Rattle.ddf_data_history.specs.Promised.{KeepsData, is_seat, seats_in}
 use Rattle.ddf_data_history.proofs.Steps.{below_floors}
@@ -94,7 +94,7 @@ module _ {B : Type 0} {tells : Type 0} (told : tells) (disks : B → BayState B)
       let last = over_last guid old.past readable call.join.group (joins_in told disks tells_bytes streams guid call) new.past over
       ∙ last_more call.join.group.config (recovery_changes call.join.timestamp call.join.group) next in
       let long = over_length guid old.past readable call.join.group (joins_in told disks tells_bytes streams guid call) new.past over in
-      let within = get_within new.past.changes.issued number one since.is_there in
+      let within = slice_get_within new.past.changes.issued number one since.is_there in
       let late = since.late in
       let same : number ≡ new.past.changes.acked = omega (arith, long, within, late) in
       some_same (ap (slice_get new.past.changes.issued) (sym same) ∙ since.is_there) last

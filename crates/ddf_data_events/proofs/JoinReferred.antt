@@ -23,11 +23,11 @@ use Rattle.ddf_plan.specs.Spare.{array_refers, holds_extent, part_refers, positi
 use Rattle.ddf_import.specs.Clash.{array_clash, bound, bound_in, disk_clash, join_cause, takes_name}
 use Rattle.ddf_import.specs.Joined.{kept_member, kept_members, members_joined, stays}
 use Rattle.ddf_array.proofs.Consistent.{to_flat}
-use Rattle.ddf_cells.proofs.Lists.{any_passes}
-use Rattle.ddf_rewrite.proofs.Lists.{get_map}
 use Rattle.ddf_history.specs.Groups.{Disk, has_current}
 use Rattle.ddf_import.proofs.Apart.{members_fresh}
 use Rattle.std.specs.List.{AllByRecursion}
+use Rattle.std.proofs.lemmas.Map.Keys.{any_passes_from_place}
+use Rattle.ddf_lemmas.proofs.Lists.{last_found, mapped_at}
 
 -- ---- look-ups
 
@@ -66,16 +66,6 @@ found_has {X = X} reference P (entry ∷ entries) x found all = go (λ later. fo
     go : (lookup (nat_eq reference) entries ≡ Some x → P reference) → (b : Bool) → nat_eq reference entry.0 ≡ b → cond b (Some entry.1) (lookup (nat_eq reference) entries) ≡ Some x → P reference
     go later true same here = subst P (sym (eqb-true reference entry.0 same)) all.0
     go later false differs there = later there
-
--- Behind entries of which none is found what is found is what is found there.
-last_found : {X : Type 0} (test : ℕ → Bool) (entries others : List (ℕ × X)) → lookup test entries ≡ None → lookup test (entries ++ others) ≡ lookup test others
-last_found test [] others none = refl
-last_found {X = X} test (entry ∷ entries) others none = go (last_found test entries others) (test entry.0) none
-  where
-    go : (lookup test entries ≡ None → lookup test (entries ++ others) ≡ lookup test others) → (b : Bool) → cond b (Some entry.1) (lookup test entries) ≡ None
-        → cond b (Some entry.1) (lookup test (entries ++ others)) ≡ lookup test others
-    go later true e = absurd cc
-    go later false e = later e
 
 -- Where none of a list's items is refused one isn't.
 passes : {X : Type 0} (f : X → Option Refusal) (xs : List X) → first_refusal (map f xs) ≡ None → (k : ℕ) (x : X) → slice_get xs k ≡ Some x → f x ≡ None
@@ -135,7 +125,7 @@ unbound : (config other : Configuration) (reference : ℕ) → IsReferredTo conf
     → lookup (nat_eq reference) other.members ≡ None
 unbound config other reference referred free none =
     let one = extent referred.element.blocks referred.position in
-    let in_element = get_map (extent referred.element.blocks) referred.element.positions referred.at referred.position referred.is_position in
+    let in_element = mapped_at (extent referred.element.blocks) referred.element.positions referred.at referred.position referred.is_position in
     let in_array = to_flat part_extents referred.entry.1.elements referred.number referred.at (Some referred.element) one referred.is_element in_element in
     let in_all = to_flat (λ (entry : List ℕ × Array). array_extents entry.1) config.arrays referred.place in_array.0 referred.entry one referred.is_entry in_array.1 in
     let own_bound : bound config.members other.members one ≡ None = passes (bound config.members other.members) (extents config.arrays) free in_all.0 one in_all.1 in
@@ -176,9 +166,9 @@ module _ (config joining : Configuration) (free : join_cause config joining ≡ 
     holds : holds_extent config reference ≡ true
     holds =
         let on : position_refers reference referred.position ≡ true = eq-eqb referred.position.reference reference referred.is_on in
-        let in_part : part_refers reference (Some referred.element) ≡ true = any_passes (position_refers reference) referred.element.positions referred.at referred.position referred.is_position on in
-        let in_array : array_refers reference referred.entry.1 ≡ true = any_passes (part_refers reference) referred.entry.1.elements referred.number (Some referred.element) referred.is_element in_part in
-        any_passes (λ (entry : List ℕ × Array). array_refers reference entry.1) config.arrays referred.place referred.entry referred.is_entry in_array
+        let in_part : part_refers reference (Some referred.element) ≡ true = any_passes_from_place (position_refers reference) referred.element.positions referred.at referred.position referred.is_position on in
+        let in_array : array_refers reference referred.entry.1 ≡ true = any_passes_from_place (part_refers reference) referred.entry.1.elements referred.number (Some referred.element) referred.is_element in_part in
+        any_passes_from_place (λ (entry : List ℕ × Array). array_refers reference entry.1) config.arrays referred.place referred.entry referred.is_entry in_array
 
     -- and each of its entries stays.
     kept_is : lookup (nat_eq reference) (kept_members config) ≡ lookup (nat_eq reference) config.members

@@ -2,13 +2,14 @@
 use Rattle.std.proofs.Common.{◌≡◌, ◌∙◌, inl, inr, ℕ, ◌<◌, Bool, true, false, not, List, [], length, Option, Some, None, Ok, ap, sym, subst}
 use Rattle.std.proofs.lemmas.Bool.{and_parts}
 use Rattle.std.specs.Prelude.{slice_index_or}
+use Rattle.ddf_lemmas.proofs.Lists.{in_map}
 use Rattle.ddf_bay.specs.Sectors.{IsLeft}
 use Rattle.ddf_bay.specs.State.{BayState}
 use Rattle.ddf_config.specs.declared.seat.Seat.{Seat}
 use Rattle.ddf_config.specs.Configuration.{Configuration}
 use Rattle.ddf_copy.specs.declared.newest_copy.Newest.{Newest}
 use Rattle.ddf_import.specs.Joined.{without_lost}
-use Rattle.ddf_rewrite.proofs.Lists.{all_at, map_get}
+use Rattle.ddf_rewrite.proofs.Lists.{all_at}
 use Rattle.ddf_history.specs.Groups.{Disk, groups, has_current, disk_of}
 use Rattle.ddf_history.specs.Issued.{IsSince, Past}
 use Rattle.ddf_history.specs.Leaders.{seen}
@@ -81,7 +82,7 @@ module _ (group former : List ℕ) {D : Type 0} (state : BayState D) (left also_
   read_first : (slot : ℕ) → is_slot (slots_of other.seats) slot ≡ true → slot < length left → is_read left slot ≡ true
   read_first slot joins below =
       let at = slot_placed (slots_of other.seats) slot joins in
-      let seat = map_get (λ (one : Seat). one.slot) other.seats at.0 slot at.1 in
+      let seat = in_map (λ (one : Seat). one.slot) other.seats at.0 slot at.1 in
       read_at left slot below
       (subst (λ (n : ℕ). slice_index_or left n false ≡ false) seat.2 (all_at (λ (one : Seat). slice_index_or left one.slot false ≡ false) other.seats at.0 seat.0 (none_left_out left other.seats none_out) seat.1))
 
@@ -112,7 +113,7 @@ module _ (group former : List ℕ) {D : Type 0} (state : BayState D) (left also_
   pub joining_floors : (held : IsLeft state.may_hold state.held) (floor : ℕ → ℕ) → AllHaveFloors former theirs state floor → HaveJoiningFloors group past state floor other
   joining_floors held floor floors slot (inl joins) sector left =
       let at = slot_placed (slots_of other.seats) slot joins in
-      let seat = map_get (λ (one : Seat). one.slot) other.seats at.0 slot at.1 in
+      let seat = in_map (λ (one : Seat). one.slot) other.seats at.0 slot at.1 in
       let since = their_since in
       let listed =
       seats_listed former state also_left also_newest also_long also_read theirs admitted.same_slots admitted.is_kept admitted.may_read admitted.member (Some former) other is_found own floor

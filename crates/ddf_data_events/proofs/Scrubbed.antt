@@ -32,6 +32,7 @@ use Rattle.ddf_assembly.specs.Slots.{newest_from}
 use Rattle.ddf_history_steps.specs.Going.{IsAdmitted}
 use Rattle.ddf_history_steps.specs.Kept.{is_read}
 use Rattle.ddf_data_history.specs.Promised.{IsAlone, seats_in}
+use Rattle.ddf_data_history.proofs.Viewed.{over_unique}
 use Rattle.ddf_data_disks.specs.Seats.{AreAlikeSeats}
 use Rattle.ddf_data_disks.proofs.Alike.{view_same}
 use Rattle.ddf_answer.specs.Call.{work_of}
@@ -40,7 +41,6 @@ use Rattle.ddf_data_calls.specs.Calls.{left_over}
 use Rattle.ddf_data_calls.specs.Reading.{AdmitsRead, Means}
 use Rattle.ddf_data_calls.proofs.Printed.{known, meant_group}
 use Rattle.ddf_data_calls.proofs.Recovered.{recovered_alike}
-use Rattle.ddf_data_calls.proofs.OneArray.{over_one}
 use Rattle.ddf_data_events.specs.Events.{AgreesAt, IsAgreeing}
 use Rattle.ddf_data_events.specs.Moments.{KeepsAll, Moment}
 use Rattle.ddf_data_events.proofs.Bays.{AreBays, held_sectors}
@@ -109,7 +109,7 @@ module _ {B : Type 0} (tells : Type 0) (told : tells) (disks : B → BayState B)
       → IsOver (seats_in group moment.past moment.floor config) entry volume → scrub.used.1 ≡ volume
   volume_is config same entry there volume over =
       let here : lookup (same_guid guid) found.config.arrays ≡ Some entry = ap (λ (one : Configuration). lookup (same_guid guid) one.arrays) (sym same) ∙ there in
-      over_one listed entry v volume
+      over_unique listed entry v volume
       (subst (λ (array : Array). IsOver listed array v) (some_same (use_of).is_found here) (use_of).over)
       (subst (λ (one : Configuration). IsOver (seats_in group moment.past moment.floor one) entry volume) same over)
 

@@ -2,15 +2,15 @@
 use Rattle.std.proofs.Common.{◌≡◌, ◌∙◌, ℕ, ◌-◌, ◌+◌, ◌≤◌, ◌==◌, Bool, true, false, List, Option, Some, None, Result, Ok, Err, if◌then◌else◌, refl, sym, ap, subst, arith}
 use Rattle.std.specs.Int.{from_be_bytes, w32, w64}
 use Rattle.std.specs.Option.{option_and_then, option_map_or}
+use Rattle.std.proofs.lemmas.Option.{same_Some}
 use Rattle.ddf_bytes.specs.Bytes.{number_at}
-use Rattle.ddf_bytes.specs.Choices.{ok_unless}
 use Rattle.ddf_bay.specs.Sectors.{IsWhole}
 use Rattle.ddf_header.specs.declared.fault.HeaderFault.{HeaderFault}
 use Rattle.ddf_header.specs.declared.kind.HeaderKind.TheVariants.{Anchor}
 use Rattle.ddf_header.specs.declared.reading.Header.{Header}
 use Rattle.ddf_header.specs.declared.layout.TheConstants.{PRIMARY_LBA_AT, SECONDARY_LBA_AT}
 use Rattle.ddf_header.specs.Header.{IsHeaderOf, decoded, first_fault, header_at, header_signature}
-use Rattle.ddf_header.proofs.Decoded.{header_at_is}
+use Rattle.ddf_header.proofs.Decoded.{header_at_is, ok_parts}
 use Rattle.ddf_header.proofs.Encoded.{encoded_again}
 use Rattle.ddf_copy.specs.declared.copy.DiskCopy.{DiskCopy}
 use Rattle.ddf_copy.specs.declared.fault.AnchorFault.{AnchorFault}
@@ -25,24 +25,16 @@ use Rattle.ddf_copy.proofs.Gates.{IsFound, found_is, headers_in_room}
 use Rattle.ddf_copy.proofs.LastCopies.{header_is}
 use Rattle.ddf_copy.proofs.Places.{standing_whole}
 use Rattle.ddf_copy.proofs.Shared.{bytes_same, same_at, shared_middle}
+use Rattle.ddf_copy.proofs.Common.{by_fault}
 use Rattle.ddf_seats.specs.Group.{floor_of}
 use Rattle.ddf_history_steps.specs.Floors.{HasFloor}
-
-some_same : {X : Type 0} (one other : X) → Some one ≡ Some other → one ≡ other
-some_same one other e = cc
-
-same_ok : {E : Type 0} (one other : Header) → ◌≡◌ {A = Result Header E} (Ok one) (Ok other) → one ≡ other
-same_ok one other e = cc
+use Rattle.ddf_history_steps.proofs.Placed.{same_ok}
 
 -- ---- an anchor as it was read
 
 by_size : (empty : Bool) (found : Result Header AnchorFault) (anchor : Header) → (if empty then Err Blank else found) ≡ Ok anchor → found ≡ Ok anchor
 by_size true found anchor is = absurd cc
 by_size false found anchor is = is
-
-by_fault : (found : Result Header HeaderFault) (anchor : Header) → anchor_or_damage found ≡ Ok anchor → found ≡ Ok anchor
-by_fault (Ok header) anchor is = ap Ok (same_ok header anchor is)
-by_fault (Err fault) anchor is = absurd cc
 
 by_signature : (signed : Bool) (found : Result Header HeaderFault) (anchor : Header) → (if signed then anchor_or_damage found else Err Blank) ≡ Ok anchor → found ≡ Ok anchor
 by_signature true found anchor is = by_fault found anchor is
@@ -52,10 +44,6 @@ anchor_decoded : (size : ℕ) (sector : ℕ → List ℕ) (anchor : Header) → 
 unfolding anchor_at anchor_in
 anchor_decoded size sector anchor is =
     by_signature (number_at w32 (sector (size - 1)) 0 == header_signature) (decoded Anchor (sector (size - 1))) anchor (by_size (size == 0) (anchor_in (sector (size - 1))) anchor is)
-
-ok_parts : (fault : Option HeaderFault) (value header : Header) → ok_unless fault value ≡ Ok header → (fault ≡ None) × (value ≡ header)
-ok_parts None value header is = (refl, same_ok value header is)
-ok_parts (Some fault) value header is = absurd cc
 
 module _ (size : ℕ) (sector : ℕ → List ℕ) (anchor : Header) (anchored : anchor_at size sector ≡ Ok anchor) (whole : IsWhole (sector (size - 1))) where
   abbrev last : List ℕ
@@ -103,8 +91,8 @@ module _ (size : ℕ) (sector : ℕ → List ℕ) (anchor : Header) (anchored : 
     pub standing_floor : HasFloor size sector (floor_of copy)
     standing_floor = record {
       same_floor = λ newest other here also.
-          let one : newest_of size sector anchor ≡ newest = some_same (newest_of size sector anchor) newest (sym (ap (newest_under size sector) anchored) ∙ here) in
-          ap floor_of (some_same other copy (sym also ∙ ap standing_copy (sym one) ∙ stands));
+          let one : newest_of size sector anchor ≡ newest = same_Some (newest_of size sector anchor) newest (sym (ap (newest_under size sector) anchored) ∙ here) in
+          ap floor_of (same_Some other copy (sym also ∙ ap standing_copy (sym one) ∙ stands));
       below = λ other is of.
           let same : anchor ≡ other = same_ok anchor other (sym anchored ∙ is) in
           subst (λ (one : Header). floor_of copy ≤ place_of of one) same (behind of);

@@ -3,6 +3,7 @@ use Rattle.std.proofs.Common.{◌≡◌, ◌∙◌, ℕ, suc, ◌+◌, Bool, fal
 use Rattle.std.proofs.Math.Path.{fun_ext}
 use Rattle.std.specs.Prelude.{is_none, nat_le, option_map, if◌then◌else◌}
 use Rattle.std.specs.List.{cons_option}
+use Rattle.ddf_lemmas.proofs.Lists.{map_alike}
 use Rattle.ddf_bay.specs.Sectors.{Image}
 use Rattle.ddf_primary.specs.Placement.{Placement}
 use Rattle.ddf_config.specs.declared.array.Array.{Array}
@@ -19,7 +20,6 @@ use Rattle.ddf_array.specs.declared.place.Place.{Place}
 use Rattle.ddf_array.specs.Viewing.{known_part, place_of, seat_slot}
 use Rattle.ddf_data_array.specs.Allowed.{Allowed}
 use Rattle.ddf_data_array.specs.Kept.{IsKeptData}
-use Rattle.ddf_data_array.proofs.Ranges.{map_in}
 use Rattle.ddf_data_group.specs.Agreeing.{AgreeOn}
 use Rattle.ddf_data_group.specs.Kept.{KeepsArray}
 use Rattle.ddf_data_group.specs.Over.{IsOver, lacks_disk, part_lacks}
@@ -41,7 +41,7 @@ module _ (seats other : List Seat) where
   parts_agree n (None ∷ elements) same = parts_agree n elements (λ k j element position at there. same (suc k) j element position at there)
   parts_agree n (Some element ∷ elements) same =
       ap (λ (l : List Place). cons_option (option_map (λ (shape : Placement). record { shape = shape; places = l }) (element_shape n element)) (filter_map (known_part other n) elements))
-      (map_in (place_of other element.blocks) (place_of seats element.blocks) element.positions (λ j position at. place_agrees element.blocks position (same 0 j element position refl at)))
+      (map_alike (place_of other element.blocks) (place_of seats element.blocks) element.positions (λ j position at. place_agrees element.blocks position (same 0 j element position refl at)))
       ∙ ap (cons_option (option_map (λ (shape : Placement). record { shape = shape; places = map (place_of seats element.blocks) element.positions }) (element_shape n element)))
       (parts_agree n elements (λ k j element position at there. same (suc k) j element position at there))
 

@@ -1,10 +1,12 @@
 -- The cells of arrays that can be used lie apart.
-use Rattle.std.proofs.Common.{◌≡◌, ◌≢◌, ◌∙◌, ℕ, zero, suc, ◌+◌, ◌<◌, ◌≤◌, Bool, true, false, not, List, [], ◌∷◌, ◌++◌, Option, Some, None, cond, refl, sym, ap, subst, arith, nat_eq, map, length, slice_get, ◌&&◌}
+use Rattle.std.proofs.Common.{◌≡◌, ◌≢◌, ◌∙◌, ℕ, zero, suc, ◌+◌, ◌<◌, ◌≤◌, Bool, true, false, not, List, [], ◌∷◌, ◌++◌, Option, Some, None, cond, refl, sym, ap, subst, arith, nat_eq, length, slice_get, ◌&&◌}
 use Rattle.std.specs.Prelude.{count_by, find, min, max, nat_le, option_map, ◌==◌, if◌then◌else◌}
 use Rattle.std.specs.List.{flat_map}
 use Rattle.std.specs.Map.{lookup}
-use Rattle.std.proofs.lemmas.Bool.{eq-eqb, eqb-true, leb-true, lt-ltb}
+use Rattle.std.proofs.lemmas.Bool.{eq-eqb, eqb-true, leb-true, lt-ltb, and_from}
 use Rattle.std.proofs.lemmas.List.Sums.{sum_by-append, sum_by-cons}
+use Rattle.ddf_lemmas.proofs.Lists.{in_map}
+use Rattle.ddf_lemmas.proofs.Tests.{and_second}
 use Rattle.ddf_config.specs.declared.array.Array.{Array}
 use Rattle.ddf_config.specs.declared.element.Position.{Position}
 use Rattle.ddf_config.specs.declared.extent.Extent.{Extent}
@@ -21,7 +23,6 @@ use Rattle.ddf_array.specs.declared.place.Place.{Place}
 use Rattle.ddf_array.specs.Apart.{AreSeats}
 use Rattle.ddf_array.specs.Viewing.{place_of, seat_slot}
 use Rattle.ddf_array.specs.Volume.{Volume}
-use Rattle.ddf_array.proofs.Bools.{and_second}
 use Rattle.ddf_array.proofs.Shapes.{blocks_are}
 use Rattle.ddf_cells.specs.Apart.{LiesAt}
 use Rattle.ddf_data_group.specs.Over.{AreCurrentSeats, IsOver}
@@ -166,15 +167,10 @@ slot_is seats one slot e = by (floor_of seats one.reference) e
     by None e = absurd (cc)
     by (Some floor) e = at_floor (nat_le (one.start + one.blocks) floor) e
 
-mapped_from : {X Y : Type 0} (f : X → Y) (xs : List X) (k : ℕ) (y : Y) → slice_get (map f xs) k ≡ Some y → (x : X) × (slice_get xs k ≡ Some x) × (f x ≡ y)
-mapped_from f [] k y e = absurd (cc)
-mapped_from f (x ∷ xs) zero y e = (x, refl, cc)
-mapped_from f (x ∷ xs) (suc k) y e = mapped_from f xs k y e
-
 pub has_extent : (seats : List Seat) (array : Array) (v : Volume) → IsOver seats array v → (e p x slot lba : ℕ) → LiesAt v e p x slot lba → HasExtent seats array e p x slot lba
 has_extent seats array v over e p x slot lba lies =
     let of = of_part seats array v over e lies.part lies.is_part in
-    let from = mapped_from (place_of seats of.element.blocks) of.element.positions p lies.place (ap (λ (l : List Place). slice_get l p) (sym of.places_are) ∙ lies.is_place) in
+    let from = in_map (place_of seats of.element.blocks) of.element.positions p lies.place (ap (λ (l : List Place). slice_get l p) (sym of.places_are) ∙ lies.is_place) in
     record {
       element = of.element;
       is_element = of.is_element;
@@ -189,10 +185,6 @@ has_extent seats array v over e p x slot lba lies =
 
 meets_by : (a b m n x y : ℕ) → a + x ≡ b + y → x < m → y < n → max a b < min (a + m) (b + n)
 meets_by a b m n x y same low high = omega (arith, same, low, high)
-
-and_both : (a b : Bool) → a ≡ true → b ≡ true → (a && b) ≡ true
-and_both true b e f = f
-and_both false b e f = e
 
 module _ (config : Configuration) (seats : List Seat) (are : AreCurrentSeats config.members seats) (own : HaveOwnSlots seats) (array other : Array) (e p x f q y slot lba : ℕ)
     (here : HasExtent seats array e p x slot lba) (there : HasExtent seats other f q y slot lba) where
@@ -212,14 +204,14 @@ module _ (config : Configuration) (seats : List Seat) (are : AreCurrentSeats con
   -- they meet
   pub they_meet : meets_extent (extent here.element.blocks here.position) (extent there.element.blocks there.position) ≡ true
   they_meet =
-      and_both (here.position.reference == there.position.reference) (meets here.position.start here.element.blocks (there.position.start, there.element.blocks))
+      and_from (here.position.reference == there.position.reference) (meets here.position.start here.element.blocks (there.position.start, there.element.blocks))
       (eq-eqb here.position.reference there.position.reference same_reference)
       (lt-ltb (max here.position.start there.position.start) (min (here.position.start + here.element.blocks) (there.position.start + there.element.blocks))
       (meets_by here.position.start there.position.start here.element.blocks there.element.blocks x y (here.is_lba ∙ sym there.is_lba) here.is_within there.is_within))
 
   pub meets_itself : meets_extent (extent here.element.blocks here.position) (extent here.element.blocks here.position) ≡ true
   meets_itself =
-      and_both (here.position.reference == here.position.reference) (meets here.position.start here.element.blocks (here.position.start, here.element.blocks))
+      and_from (here.position.reference == here.position.reference) (meets here.position.start here.element.blocks (here.position.start, here.element.blocks))
       (eq-eqb here.position.reference here.position.reference refl)
       (lt-ltb (max here.position.start here.position.start) (min (here.position.start + here.element.blocks) (here.position.start + here.element.blocks))
       (meets_by here.position.start here.position.start here.element.blocks here.element.blocks x x refl here.is_within here.is_within))

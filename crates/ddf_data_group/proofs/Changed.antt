@@ -1,6 +1,7 @@
 -- What the arrays of a configuration keep through its changes.
 use Rattle.std.proofs.Common.{◌≡◌, ◌∙◌, ⊎_elim, ℕ, Bool, true, false, List, [], ◌∷◌, Option, Some, None, cond, refl, sym, ap, subst, if◌then◌else◌}
 use Rattle.std.specs.Map.{lookup}
+use Rattle.ddf_lemmas.proofs.Options.{none_some}
 use Rattle.ddf_bay.specs.Sectors.{Image}
 use Rattle.ddf_config.specs.declared.array.Array.{Array}
 use Rattle.ddf_config.specs.declared.member.Member.{Member}
@@ -18,6 +19,7 @@ use Rattle.ddf_plan.specs.Changes.{changed_at}
 use Rattle.ddf_plan.specs.Lose.{lost_array}
 use Rattle.ddf_plan.specs.Mark.{marked, rewound, unmarked}
 use Rattle.ddf_plan.specs.Members.{member_after, members_after}
+use Rattle.ddf_repair.proofs.Marks.{marked_is, unmarked_is}
 use Rattle.ddf_array.specs.Losing.{AreFewer}
 use Rattle.ddf_data_array.specs.Allowed.{Allowed}
 use Rattle.ddf_data_group.specs.Over.{AreCurrentSeats}
@@ -27,11 +29,8 @@ use Rattle.ddf_data_group.proofs.Cleared.{cleared, same_marked}
 use Rattle.ddf_data_group.proofs.Entries.{before, current_same, found_in, guid_is, never_drops, same_mark}
 use Rattle.ddf_data_group.proofs.Keeping.{kept_as, kept_lost, kept_marked, kept_staying}
 use Rattle.ddf_data_group.proofs.Moving.{moving}
-use Rattle.ddf_data_group.proofs.Named.{begun_less, begun_stays, finished_synced, marked_is, marked_less, progressed_noted, returned_moved, rewound_less, rewound_stays, unmarked_is, unmarked_same}
+use Rattle.ddf_data_group.proofs.Named.{begun_less, begun_stays, finished_synced, marked_less, progressed_noted, returned_moved, rewound_less, rewound_stays, unmarked_same}
 use Rattle.ddf_data_group.proofs.Synced.{finished, noted_rows}
-
-no_some : {X : Type 0} (o : Option X) (x : X) → o ≡ None → o ≡ Some x → ⊥
-no_some o x a b = cc
 
 -- a deleted array is deleted under each of its names
 drops_by : (b : Bool) (x y : Array) → (if b then None else Some x) ≡ None → (◌≡◌ {A = Option Array} (if b then None else Some y) None)
@@ -184,7 +183,7 @@ module _ (config : Configuration) (seats fewer : List Seat) (image : Image) (pro
   none_added (Lose references) may guid allowed array promised found = cc
   none_added (Create made added) may guid allowed array promised found =
       let same : guid ≡ made = guid_is guid made (one_by (same_guid guid made) _ array found) in
-      no_some (promises made) allowed may (ap promises (sym same) ∙ promised)
+      none_some (promises made) allowed may (ap promises (sym same) ∙ promised)
   none_added (Delete gone) may guid allowed array promised found = cc
   none_added (Spare spare use_as) may guid allowed array promised found = cc
   none_added (Fail failed) may guid allowed array promised found = cc

@@ -2,6 +2,8 @@
 use Rattle.std.proofs.Common.{◌≡◌, ◌≢◌, ◌∙◌, ◌⊎◌, inl, inr, ⊎_elim, ℕ, ◌+◌, ◌<◌, true, List, Option, Some, None, Ok, sym, ap, subst, arith, length, slice_get}
 use Rattle.std.specs.List.{list_all}
 use Rattle.std.specs.Map.{lookup}
+use Rattle.ddf_lemmas.proofs.Lists.{mapped_at}
+use Rattle.ddf_lemmas.proofs.Options.{some_is}
 use Rattle.ddf_bay.specs.Sectors.{Image}
 use Rattle.ddf_primary.proofs.ShapeFacts.{depth_le}
 use Rattle.ddf_config.specs.declared.array.Array.{Array}
@@ -22,7 +24,6 @@ use Rattle.ddf_array.specs.Viewing.{view_of}
 use Rattle.ddf_array.specs.Volume.{Volume, IsVolume}
 use Rattle.ddf_array.proofs.Consistent.{to_flat}
 use Rattle.ddf_array.proofs.Enough.{all_pass}
-use Rattle.ddf_array.proofs.Losses.{mapped_at}
 use Rattle.ddf_array.proofs.Usable.{complete, lie_well, shapes}
 use Rattle.ddf_array.proofs.Viewed.{from_view}
 use Rattle.ddf_cells.specs.Alike.{IsCell}
@@ -31,10 +32,11 @@ use Rattle.ddf_cells.specs.Parity.{IsParityCell}
 use Rattle.ddf_cells.specs.Writing.{StaysBut}
 use Rattle.ddf_cells.proofs.Alike.{cell_site, copy_is_cell, depth_below}
 use Rattle.ddf_cells.proofs.CopiesOn.{block_at_sits}
-use Rattle.ddf_cells.proofs.OnCells.{at_site, block_below}
+use Rattle.ddf_cells.proofs.OnCells.{block_below}
 use Rattle.ddf_write.specs.Writing.{IsLeftByWrite, IsParityOf}
 use Rattle.ddf_resync.specs.Resyncing.{MayResync}
 use Rattle.ddf_rebuild.specs.Target.{IsTargetCell}
+use Rattle.ddf_rebuild.proofs.Aiming.{cell_lies}
 use Rattle.ddf_data_array.specs.Rows.{AreAlikeThroughout}
 use Rattle.ddf_data_group.specs.Clear.{ChangesItsCells, IsItsCell}
 use Rattle.ddf_data_group.specs.Over.{AreCurrentSeats, IsOver}
@@ -47,12 +49,6 @@ same_key None a b x y one other = absurd (cc)
 same_key (Some entry) a b x y one other =
     let pair : ◌≡◌ {A = Option (List ℕ × Array)} (Some (a, x)) (Some (b, y)) = sym one ∙ other in
     ap (λ (found : Option (List ℕ × Array)). elim found [ None ↦ a | Some e ↦ e.0 ]) pair
-
--- a sector of an available position is one of an extent
-pub lies_of : (v : Volume) (slot lba : ℕ) (cell : IsCell v slot lba) → LiesAt v cell.element cell.position cell.sector slot lba
-lies_of v slot lba cell =
-    let at = at_site cell.part.places cell.position cell.sector (site_on slot lba) cell.is_site in
-    record { part = cell.part; place = at.place; is_part = cell.is_part; is_place = at.is_place; below = cell.below; is_there = at.on_slot; lba_is = at.is_lba }
 
 -- ---- one array over seats
 
@@ -125,20 +121,17 @@ module _ (config : Configuration) (guid : List ℕ) (seats : List Seat) (v : Vol
 
 -- ---- what writes, resyncs and rebuilds change
 
-cell_its : (v : Volume) (slot lba : ℕ) → IsCell v slot lba → IsItsCell v slot lba
-cell_its v slot lba cell = record { element = cell.element; position = cell.position; sector = cell.sector; lies = lies_of v slot lba cell }
+pub cell_its : (v : Volume) (slot lba : ℕ) → IsCell v slot lba → IsItsCell v slot lba
+cell_its v slot lba cell = record { element = cell.element; position = cell.position; sector = cell.sector; lies = cell_lies v slot lba cell }
 
-copy_its : (v : Volume) → IsVolume v → (block k slot lba : ℕ) → slice_get (copies v block) k ≡ Some (site_on slot lba) → IsItsCell v slot lba
+pub copy_its : (v : Volume) → IsVolume v → (block k slot lba : ℕ) → slice_get (copies v block) k ≡ Some (site_on slot lba) → IsItsCell v slot lba
 copy_its v known block k slot lba at = cell_its v slot lba (copy_is_cell v known block k (site_on slot lba) at)
 
-parity_its : (v : Volume) → IsVolume v → (slot lba : ℕ) → IsParityCell v slot lba → IsItsCell v slot lba
+pub parity_its : (v : Volume) → IsVolume v → (slot lba : ℕ) → IsParityCell v slot lba → IsItsCell v slot lba
 parity_its v known slot lba of =
     cell_its v slot lba (cell_site v known of.element of.part of.is_part of.position of.sector (site_on slot lba) (depth_below v known of.part of.sector of.deep) of.is_there)
 
-some_is : {X : Type 0} {a b : X} → Some a ≡ Some b → a ≡ b
-some_is e = cc
-
-touched_its : (v : Volume) → IsVolume v → (start count slot lba : ℕ) → IsParityOf v start count slot lba → IsItsCell v slot lba
+pub touched_its : (v : Volume) → IsVolume v → (start count slot lba : ℕ) → IsParityOf v start count slot lba → IsItsCell v slot lba
 touched_its v known start count slot lba of =
     let is = of.is_at in
     let sits = block_at_sits v known of.element is.touched.position of.sector (start + is.touched.k) is.touched.holds_it in

@@ -4,6 +4,8 @@ use Rattle.std.specs.Prelude.{is_some, nat_le, option_map, ◌==◌, if◌then�
 use Rattle.std.specs.List.{cons_option, list_all, list_any}
 use Rattle.std.specs.Map.{lookup}
 use Rattle.std.proofs.lemmas.List.{length-map}
+use Rattle.ddf_lemmas.proofs.Options.{none_some}
+use Rattle.ddf_lemmas.proofs.Tests.{and_first, and_second}
 use Rattle.ddf_primary.specs.Placement.{Placement}
 use Rattle.ddf_array.proofs.Told.{shape_coded}
 use Rattle.ddf_config.specs.declared.array.Array.{Array}
@@ -28,7 +30,6 @@ use Rattle.ddf_plan.specs.Create.{created, laid_element, laid_parts}
 use Rattle.ddf_array.specs.Viewing.{known_part, place_of}
 use Rattle.ddf_array.specs.Volume.{Volume}
 use Rattle.ddf_array.specs.Within.{is_redundant, keeps_more}
-use Rattle.ddf_array.proofs.Bools.{and_first, and_second}
 use Rattle.ddf_data_array.specs.Changing.{IsWritable}
 use Rattle.ddf_data_group.specs.Over.{IsOver}
 use Rattle.ddf_data_group.proofs.Entries.{before, found_in, never_drops, same_mark}
@@ -83,9 +84,6 @@ one_by : (b : Bool) (x y : Array) → cond b (Some x) None ≡ Some y → x ≡ 
 one_by true x y e = cc
 one_by false x y e = absurd (cc)
 
-no_some : {X : Type 0} (o : Option X) (x : X) → o ≡ None → o ≡ Some x → ⊥
-no_some o x a b = cc
-
 writable_by : (v : Volume) (b : Bool) → v.marked ≡ b → is_redundant v ≡ b → IsWritable v
 writable_by v true marked redundant = inl marked
 writable_by v false marked redundant = inr redundant
@@ -100,7 +98,7 @@ created_writable conf guid array made sequence seats v new found over =
     let one = created conf.members (extents conf.arrays) array in
     let is_new : one ≡ low.value =
     ⊎_elim
-    (λ old. absurd (no_some (lookup (same_guid guid) (changed_entries (kept_array false members (Create guid array)) conf.arrays)) low.value
+    (λ old. absurd (none_some (lookup (same_guid guid) (changed_entries (kept_array false members (Create guid array)) conf.arrays)) low.value
     (absent_changed (kept_array false members (Create guid array)) (same_guid guid) conf.arrays new) old))
     (λ added. one_by (same_guid guid guid) one low.value added)
     (found_in (same_guid guid) (changed_entries (kept_array false members (Create guid array)) conf.arrays) ((guid, one) ∷ []) low.value low.was) in

@@ -40,9 +40,7 @@ use Rattle.ddf_data_group.proofs.Named.{all_made}
 use Rattle.ddf_data_array.specs.Changing.{changed_item}
 use Rattle.ddf_data_array.proofs.Items.{changed_cases}
 use Rattle.std.proofs.lemmas.Bool.{ne_eqb}
-
-some_is : {X : Type 0} {a b : X} → Some a ≡ Some b → a ≡ b
-some_is e = cc
+use Rattle.ddf_lemmas.proofs.Options.{some_is}
 
 -- ---- the first of an array
 

@@ -4,6 +4,8 @@ use Rattle.std.specs.Prelude.{max, min, nat_le, slice_index, if◌then◌else◌
 use Rattle.std.specs.List.{list_any}
 use Rattle.std.specs.Map.{lookup}
 use Rattle.std.proofs.lemmas.Bool.{eq-eqb, false≢true, lt-ltb}
+use Rattle.ddf_lemmas.proofs.Lists.{mapped_at}
+use Rattle.ddf_lemmas.proofs.Tests.{and_second}
 use Rattle.ddf_bay.specs.Sectors.{Image}
 use Rattle.ddf_primary.specs.Cells.{depth_of}
 use Rattle.ddf_primary.proofs.ShapeFacts.{depth_le}
@@ -21,17 +23,15 @@ use Rattle.ddf_array.specs.Apart.{AreSeats}
 use Rattle.ddf_array.specs.declared.part.Part.{Part}
 use Rattle.ddf_array.specs.Viewing.{seat_slot}
 use Rattle.ddf_array.specs.Volume.{Volume}
-use Rattle.ddf_array.proofs.Bools.{and_second}
 use Rattle.ddf_array.proofs.Consistent.{to_flat}
-use Rattle.ddf_array.proofs.Losses.{mapped_at}
 use Rattle.ddf_cells.specs.Apart.{LiesAt}
 use Rattle.ddf_cells.specs.Writing.{IsAmongSectors, StaysBut}
 use Rattle.ddf_rebuild.specs.Filling.{IsFilled}
 use Rattle.ddf_rebuild.specs.Target.{IsAside}
+use Rattle.ddf_rebuild.proofs.Aiming.{cell_lies}
 use Rattle.ddf_data_array.specs.Rows.{AreAlikeThroughout}
 use Rattle.ddf_data_group.specs.Over.{IsOver}
 use Rattle.ddf_data_group.proofs.Apart.{entry_of, has_extent, own_slots, seat_of, slot_is}
-use Rattle.ddf_data_group.proofs.Clearly.{lies_of}
 use Rattle.ddf_data_group.proofs.Lessened.{slot_ends}
 
 -- ---- the extents on a disk
@@ -112,7 +112,7 @@ module _ (config : Configuration) (seats : List Seat) (seated : AreSeats config.
           within = subst (λ (n : ℕ). one.start + part.shape.blocks ≤ slice_index sizes n) there (omega (arith, fit.1, seat.is_floor, ends.2, blocks));
           small = let low = small ends.0 ends.1 in omega (arith, low, ends.2, blocks);
           apart = λ sector below cell.
-              let lies = lies_of w slot (one.start + sector) cell in
+              let lies = cell_lies w slot (one.start + sector) cell in
               never cell.element cell.position cell.sector (one.start + sector) lies (omega arith) (omega (arith, below, blocks));
         }
 

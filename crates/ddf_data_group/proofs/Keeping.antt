@@ -32,7 +32,7 @@ kept_staying members after_members seats fewer before after image allowed curren
 
 -- the same array
 
-stay_position : (c : ℕ → Bool) (positions : List Position) → AreStaying c positions positions
+pub stay_position : (c : ℕ → Bool) (positions : List Position) → AreStaying c positions positions
 stay_position c [] = tt
 stay_position c (position ∷ positions) = (inr (refl, refl, refl), stay_position c positions)
 
@@ -45,7 +45,7 @@ less_parts [] = tt
 less_parts (None ∷ known) = (tt, less_parts known)
 less_parts (Some element ∷ known) = (record { same_level = refl; same_qualifier = refl; same_strip = refl; same_blocks = refl; less = less_position element.positions }, less_parts known)
 
-same_element : (o : Option (Option ElementValue)) (one other : ElementValue) → o ≡ Some (Some one) → o ≡ Some (Some other) → one ≡ other
+pub same_element : (o : Option (Option ElementValue)) (one other : ElementValue) → o ≡ Some (Some one) → o ≡ Some (Some other) → one ≡ other
 same_element None one other a b = absurd (cc)
 same_element (Some found) one other a b = cc
 

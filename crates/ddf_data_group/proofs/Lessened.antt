@@ -4,6 +4,7 @@ use Rattle.std.specs.Prelude.{nat_le, is_some, option_map, option_and_then, ◌=
 use Rattle.std.specs.Result.{result_ok}
 use Rattle.std.specs.List.{cons_option, list_all}
 use Rattle.std.proofs.lemmas.Bool.{leb-true}
+use Rattle.ddf_lemmas.proofs.Options.{no_first_of_and_some}
 use Rattle.ddf_primary.specs.Placement.{Placement}
 use Rattle.ddf_primary.specs.Levels.{IsShape, shape_of}
 use Rattle.ddf_secondary.specs.Arrangement.{tiers_of}
@@ -32,10 +33,6 @@ use Rattle.ddf_data_group.specs.Lessening.{IsLessPosition, AreLessPositions, IsL
 
 -- ---- places
 
-not_synced : (synced : Bool) (slot : Option ℕ) → synced ≡ false → (synced && is_some slot) ≡ false
-not_synced true slot e = absurd (cc)
-not_synced false slot e = refl
-
 no_slot : (synced : Bool) (slot : Option ℕ) → slot ≡ None → (synced && is_some slot) ≡ false
 no_slot true None e = refl
 no_slot true (Some s) e = absurd (cc)
@@ -62,7 +59,7 @@ module _ (seats fewer : List Seat) (few : AreFewer seats fewer) where
   place_less : (blocks blocks' : ℕ) → blocks' ≡ blocks → (before after : Position) → IsLessPosition before after → IsFewerPlace (place_of seats blocks before) (place_of fewer blocks' after)
   place_less blocks blocks' b before after less =
       ⊎_elim
-      (λ out. inl (not_synced after.synced (seat_slot fewer (extent blocks' after)) out.0))
+      (λ out. inl (no_first_of_and_some after.synced (seat_slot fewer (extent blocks' after)) out.0))
       (λ same.
       let one = extent_same blocks blocks' before after b same.1 same.2 in
       ⊎_elim
@@ -80,7 +77,7 @@ module _ (seats fewer : List Seat) (few : AreFewer seats fewer) where
 
 -- ---- shapes
 
-less_count : (befores afters : List Position) → AreLessPositions befores afters → length afters ≡ length befores
+pub less_count : (befores afters : List Position) → AreLessPositions befores afters → length afters ≡ length befores
 less_count [] [] less = refl
 less_count [] (after ∷ afters) less = absurd less
 less_count (before ∷ befores) [] less = absurd less

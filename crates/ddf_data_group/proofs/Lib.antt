@@ -21,3 +21,4 @@ pub mod Created
 pub mod Readied
 pub mod Vacant
 pub mod Firsts
+pub mod Common

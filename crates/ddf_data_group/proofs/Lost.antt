@@ -3,6 +3,7 @@ use Rattle.std.proofs.Common.{◌≡◌, ◌∙◌, inl, inr, ℕ, zero, suc, �
 use Rattle.std.specs.Prelude.{◌==◌, nat_le, count_by, option_map, if◌then◌else◌}
 use Rattle.std.specs.List.{list_all, list_any}
 use Rattle.std.proofs.lemmas.Bool.{leb-true}
+use Rattle.ddf_lemmas.proofs.Tests.{true_false}
 use Rattle.ddf_primary.specs.declared.need.Need.{Need}
 use Rattle.ddf_primary.specs.Needs.{need_by, need_of}
 use Rattle.ddf_primary.proofs.Needs.{parity_needs}
@@ -28,9 +29,6 @@ use Rattle.ddf_data_group.specs.Over.{AreCurrentSeats, IsOver, absent_in}
 use Rattle.ddf_data_group.specs.Lessening.{IsLessPosition, AreLessPositions, IsLessElement, IsLessPart, AreLessParts, IsLessArray}
 use Rattle.ddf_data_group.proofs.Lessened.{parts_count}
 use Rattle.ddf_data_group.proofs.Parts.{IsPartOf, absent_is, any_within, by_seats, count_down, mirrored_is, of_part}
-
-true_false : (b : Bool) → b ≡ true → b ≡ false → ⊥
-true_false b a c = cc
 
 -- ---- it leaves less
 

@@ -1,10 +1,11 @@
 -- Of a marked array no rows count as rebuilt.
-use Rattle.std.proofs.Common.{◌≡◌, ◌∙◌, ℕ, zero, suc, Bool, true, false, not, List, [], ◌∷◌, Option, Some, None, cond, refl, sym, ap, subst, map, slice_get, ◌&&◌, if◌then◌else◌}
+use Rattle.std.proofs.Common.{◌≡◌, ◌∙◌, ℕ, zero, suc, Bool, true, false, not, List, [], ◌∷◌, Option, Some, None, cond, refl, sym, ap, subst, map, slice_get, if◌then◌else◌}
 use Rattle.std.specs.Prelude.{option_map}
 use Rattle.std.specs.Map.{lookup}
 use Rattle.std.specs.Option.{option_eq}
 use Rattle.std.specs.Cmp.Lexicographic.{pointwise}
 use Rattle.std.proofs.lemmas.Bool.{eqb-true}
+use Rattle.ddf_lemmas.proofs.Tests.{and_first, and_second}
 use Rattle.ddf_config.specs.declared.array.Array.{Array}
 use Rattle.ddf_config.specs.declared.element.Position.{Position}
 use Rattle.ddf_config.specs.declared.seat.Seat.{Seat}
@@ -33,14 +34,14 @@ record IsWithoutRows (known : List (Option ElementValue)) : Type 0 where
   pub was : List (Option ElementValue)
   pub is_without : known ≡ map (option_map without_rows) was
 
-element_without : (was : List (Option ElementValue)) (k : ℕ) (element : ElementValue) → slice_get (map (option_map without_rows) was) k ≡ Some (Some element)
+pub element_without : (was : List (Option ElementValue)) (k : ℕ) (element : ElementValue) → slice_get (map (option_map without_rows) was) k ≡ Some (Some element)
     → (one : ElementValue) × (element ≡ without_rows one)
 element_without [] k element at = absurd (cc)
 element_without (None ∷ was) zero element at = absurd (cc)
 element_without (Some one ∷ was) zero element at = let same : without_rows one ≡ element = cc in (one, sym same)
 element_without (part ∷ was) (suc k) element at = element_without was k element at
 
-no_row : (seats : List Seat) (blocks : ℕ) (positions : List Position) (j : ℕ) (place : Place) → slice_get (map (place_of seats blocks) (map without_row positions)) j ≡ Some place → place.row ≡ 0
+pub no_row : (seats : List Seat) (blocks : ℕ) (positions : List Position) (j : ℕ) (place : Place) → slice_get (map (place_of seats blocks) (map without_row positions)) j ≡ Some place → place.row ≡ 0
 no_row seats blocks [] j place at = absurd (cc)
 no_row seats blocks (one ∷ positions) zero place at =
     let same : place_of seats blocks (without_row one) ≡ place = cc in ap (λ (x : Place). x.row) (sym same)
@@ -61,14 +62,6 @@ no_rows_left conf guid array sequence seats v found over =
 
 -- ---- a mark that is there already
 
-second_of : (a b : Bool) → (a && b) ≡ true → b ≡ true
-second_of true b e = e
-second_of false b e = absurd (cc)
-
-first_of : (a b : Bool) → (a && b) ≡ true → a ≡ true
-first_of true b e = refl
-first_of false b e = absurd (cc)
-
 -- what the mark makes of an array that is as it was
 record IsAsBefore (k : List ℕ → Array → Array) (test : List ℕ → Bool) (array : Array) : Type 0 where
   pub guid : List ℕ
@@ -78,18 +71,18 @@ record IsAsBefore (k : List ℕ → Array → Array) (test : List ℕ → Bool) 
 as_before : (k : List ℕ → Array → Array) (test : List ℕ → Bool) (entries : List (List ℕ × Array)) (array : Array)
     → pointwise same_array entries (changed_entries (λ g a. Some (k g a)) entries) ≡ true → lookup test entries ≡ Some array → IsAsBefore k test array
 as_before k test [] array same found = absurd (cc)
-as_before k test (entry ∷ entries) array same found = by (test entry.0) refl (as_before k test entries array (second_of _ _ same)) found
+as_before k test (entry ∷ entries) array same found = by (test entry.0) refl (as_before k test entries array (and_second _ _ same)) found
   where
     by : (b : Bool) → test entry.0 ≡ b → (lookup test entries ≡ Some array → IsAsBefore k test array) → cond b (Some entry.1) (lookup test entries) ≡ Some array → IsAsBefore k test array
-    by true e later is = let own : entry.1 ≡ array = cc in subst (IsAsBefore k test) own (record { guid = entry.0; passes = e; same = first_of _ _ same })
+    by true e later is = let own : entry.1 ≡ array = cc in subst (IsAsBefore k test) own (record { guid = entry.0; passes = e; same = and_first _ _ same })
     by false e later is = later is
 
 no_position : (positions : List Position) (j : ℕ) (one : Position) → pointwise same_position positions (map without_row positions) ≡ true → slice_get positions j ≡ Some one → one.row ≡ 0
 no_position [] j one same at = absurd (cc)
 no_position (p ∷ positions) zero one same at =
     let own : p ≡ one = cc in
-    ap (λ (x : Position). x.row) (sym own) ∙ eqb-true p.row 0 (second_of _ _ (first_of _ _ same))
-no_position (p ∷ positions) (suc j) one same at = no_position positions j one (second_of _ _ same) at
+    ap (λ (x : Position). x.row) (sym own) ∙ eqb-true p.row 0 (and_second _ _ (and_first _ _ same))
+no_position (p ∷ positions) (suc j) one same at = no_position positions j one (and_second _ _ same) at
 
 no_element : (known : List (Option ElementValue)) (k : ℕ) (element : ElementValue) → pointwise (option_eq same_element) known (map (option_map without_rows) known) ≡ true → slice_get known k ≡ Some (Some element)
     → pointwise same_position element.positions (map without_row element.positions) ≡ true
@@ -97,8 +90,8 @@ no_element [] k element same at = absurd (cc)
 no_element (None ∷ known) zero element same at = absurd (cc)
 no_element (Some one ∷ known) zero element same at =
     let own : one ≡ element = cc in
-    subst (λ (x : ElementValue). pointwise same_position x.positions (map without_row x.positions) ≡ true) own (second_of _ _ (first_of _ _ same))
-no_element (part ∷ known) (suc k) element same at = no_element known k element (second_of _ _ same) at
+    subst (λ (x : ElementValue). pointwise same_position x.positions (map without_row x.positions) ≡ true) own (and_second _ _ (and_first _ _ same))
+no_element (part ∷ known) (suc k) element same at = no_element known k element (and_second _ _ same) at
 
 pub none_were : (conf : Configuration) (guid : List ℕ) (array : Array) (seats : List Seat) (v : Volume) → lookup (same_guid guid) conf.arrays ≡ Some array → is_step conf (Mark guid) ≡ false
     → IsOver seats array v → HasNoRows v
@@ -107,9 +100,9 @@ none_were conf guid array seats v found unstepped over k j part place part_at is
     let all = extents (kept_and_added conf (Mark guid)) in
     let tables = not_back (same_tables conf (changed conf (Mark guid))) unstepped in
     let arrays : pointwise same_array conf.arrays (changed_entries (λ g a. Some (one_after conf (Mark guid) all g a)) conf.arrays) ≡ true =
-    subst (λ (entries : List (List ℕ × Array)). pointwise same_array conf.arrays entries ≡ true) (table_is conf (Mark guid) refl) (second_of _ _ tables) in
+    subst (λ (entries : List (List ℕ × Array)). pointwise same_array conf.arrays entries ≡ true) (table_is conf (Mark guid) refl) (and_second _ _ tables) in
     let was = as_before (one_after conf (Mark guid) all) (same_guid guid) conf.arrays array arrays found in
-    let elements : pointwise (option_eq same_element) array.elements (map (option_map without_rows) array.elements) ≡ true = by (same_guid guid was.guid) was.passes (second_of _ _ was.same) in
+    let elements : pointwise (option_eq same_element) array.elements (map (option_map without_rows) array.elements) ≡ true = by (same_guid guid was.guid) was.passes (and_second _ _ was.same) in
     let from = of_part seats array v over k part part_at in
     let there = at_position seats from.element.blocks from.element.positions j place (ap (λ (l : List Place). slice_get l j) (sym from.places_are) ∙ is_place) in
     ap (λ (x : Place). x.row) there.2 ∙ no_position from.element.positions j there.0 (no_element array.elements k from.element elements from.is_element) there.1

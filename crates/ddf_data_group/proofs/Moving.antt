@@ -4,6 +4,9 @@ use Rattle.std.proofs.Math.Path.{fun_ext}
 use Rattle.std.specs.Prelude.{is_none, is_some, option_and_then, option_map}
 use Rattle.std.specs.Result.{result_ok}
 use Rattle.std.specs.List.{cons_option, list_all}
+use Rattle.std.proofs.Math.Bool.{and-false}
+use Rattle.ddf_lemmas.proofs.Options.{some_is}
+use Rattle.ddf_lemmas.proofs.Tests.{and_first, and_second}
 use Rattle.ddf_bay.specs.Sectors.{Image}
 use Rattle.ddf_primary.specs.Levels.{shape_of}
 use Rattle.ddf_primary.specs.Placement.{Placement}
@@ -19,7 +22,6 @@ use Rattle.ddf_array.specs.declared.part.Part.{Part}
 use Rattle.ddf_array.specs.declared.place.Place.{Place}
 use Rattle.ddf_array.specs.Viewing.{known_part, place_of, seat_slot}
 use Rattle.ddf_array.specs.Volume.{Volume, volume}
-use Rattle.ddf_array.proofs.Bools.{and_first, and_second}
 use Rattle.ddf_data_array.specs.Allowed.{Allowed}
 use Rattle.ddf_data_array.specs.Changing.{changed_item, place_in_sync}
 use Rattle.ddf_data_array.specs.Kept.{IsKeptData}
@@ -36,9 +38,6 @@ use Rattle.ddf_data_group.proofs.Parts.{of_part}
 use Rattle.ddf_data_group.proofs.Remade.{was}
 use Rattle.ddf_data_group.proofs.Synced.{remakes_synced}
 
-some_is : {X : Type 0} {a b : X} → Some a ≡ Some b → a ≡ b
-some_is e = cc
-
 changed_twice : {X : Type 0} (f g : X → X) (k : ℕ) (xs : List X) → changed_item f k (changed_item g k xs) ≡ changed_item (λ x. f (g x)) k xs
 changed_twice f g k [] = refl
 changed_twice f g zero (x ∷ xs) = refl
@@ -48,10 +47,6 @@ changed_same : {X : Type 0} (f : X → X) (k : ℕ) (xs : List X) → ((x : X) �
 changed_same f k [] same = refl
 changed_same f zero (x ∷ xs) same = ap (λ y. y ∷ xs) (same x refl)
 changed_same f (suc k) (x ∷ xs) same = ap (λ l. x ∷ l) (changed_same f k xs same)
-
-and_false : (b : Bool) → (b && false) ≡ false
-and_false true = refl
-and_false false = refl
 
 module _ (p r s : ℕ) where
   -- ---- the position out of sync, on its new extent: less than before, and in sync what is after
@@ -183,8 +178,8 @@ module _ (p r s : ℕ) where
       lacks_moved p b a [] blocks on there j = refl
       lacks_moved zero b a (x ∷ xs) blocks on there zero =
           ap (λ (m : ℕ). is_current members r && is_none (seat_slot seats (record { reference = r; start = s; blocks = m }))) blocks
-          ∙ ap (λ (o : Option ℕ). is_current members r && is_none o) on ∙ and_false (is_current members r)
-          ∙ sym (ap (λ (c : Bool). is_current members x.reference && c) (there x refl) ∙ and_false (is_current members x.reference))
+          ∙ ap (λ (o : Option ℕ). is_current members r && is_none o) on ∙ and-false (is_current members r)
+          ∙ sym (ap (λ (c : Bool). is_current members x.reference && c) (there x refl) ∙ and-false (is_current members x.reference))
       lacks_moved zero b a (x ∷ xs) blocks on there (suc j) =
           ap (λ (m : ℕ). elim (slice_get xs j) [ None ↦ false | Some one ↦ is_current members one.reference && is_none (seat_slot seats (extent m one)) ]) blocks
       lacks_moved (suc p) b a (x ∷ xs) blocks on there zero = ap (λ (m : ℕ). is_current members x.reference && is_none (seat_slot seats (extent m x))) blocks

@@ -1,17 +1,17 @@
 -- What a change that names one array makes of it.
-use Rattle.std.proofs.Common.{◌≡◌, ◌≢◌, ◌∙◌, inl, inr, ℕ, zero, suc, ◌+◌, ◌-◌, ◌/◌, ◌%◌, ◌<◌, Bool, true, false, List, [], ◌∷◌, Option, Some, None, refl, sym, ap, subst, arith, nat_eq, map, slice_get}
-use Rattle.std.specs.Prelude.{option_map, ◌==◌, if◌then◌else◌}
+use Rattle.std.proofs.Common.{◌≡◌, ◌∙◌, inl, inr, ℕ, zero, suc, ◌+◌, ◌<◌, Bool, true, false, List, [], ◌∷◌, Option, Some, None, refl, sym, ap, subst, arith, nat_eq, map, slice_get}
+use Rattle.std.specs.Prelude.{option_map, if◌then◌else◌}
 use Rattle.std.specs.List.{enumerate_from}
 use Rattle.std.proofs.lemmas.Bool.{eq-eqb, eqb-true, ne_eqb}
 use Rattle.ddf_config.specs.declared.array.Array.{Array}
 use Rattle.ddf_config.specs.declared.element.Position.{Position}
 use Rattle.ddf_config.specs.ElementValue.{ElementValue, with_positions}
-use Rattle.ddf_config.specs.States.{is_marked}
 use Rattle.ddf_plan.specs.declared.change.Change.{Change}
 use Rattle.ddf_plan.specs.declared.change.Change.TheVariants.{Begin, Progress, Finish, Return}
 use Rattle.ddf_plan.specs.Arrays.{element_after, part_after, position_after, rebuilding}
-use Rattle.ddf_plan.specs.Mark.{mark, marked, rewound, unmarked, without_row, without_rows}
+use Rattle.ddf_plan.specs.Mark.{marked, rewound, unmarked, without_row, without_rows}
 use Rattle.ddf_plan.specs.Rebuild.{new_position, progressed, returned}
+use Rattle.ddf_repair.proofs.Marks.{marked_is}
 use Rattle.ddf_data_array.specs.Changing.{changed_item}
 use Rattle.ddf_data_group.specs.Clearing.{AreMovedParts, IsInSync, IsMovedArray, IsNotedArray, IsSameButMark, element_in_sync, element_noted, position_in_sync, position_moved, position_noted}
 use Rattle.ddf_data_group.specs.Lessening.{AllStay, AreLessParts, AreLessPositions, AreStaying, IsLessArray, IsLessElement, IsLessPart, IsLessPosition, IsStaying}
@@ -19,38 +19,14 @@ use Rattle.ddf_data_group.proofs.Moving.{moved_parts}
 
 -- ---- the mark
 
-set_by : (b : Bool) (state : ℕ) → (state / 16 % 2 == 1) ≡ b → ((if b then state else state + mark) / 16 % 2 == 1) ≡ true
-set_by true state is = is
-set_by false state is = eq-eqb ((state + mark) / 16 % 2) 1 (by (state / 16 % 2 == 1) refl)
-  where
-    by : (b : Bool) → (state / 16 % 2 == 1) ≡ b → (state + 16) / 16 % 2 ≡ 1
-    by true e = absurd (cc)
-    by false e = let odd : state / 16 % 2 ≢ 1 = λ same. true_false (state / 16 % 2 == 1) (eq-eqb (state / 16 % 2) 1 same) e in omega (arith, odd)
-      where
-        true_false : (c : Bool) → c ≡ true → c ≡ false → ⊥
-        true_false c x y = cc
-
-pub marked_is : (array : Array) → is_marked (marked array) ≡ true
-marked_is array = set_by (is_marked array) array.state refl
-
-cleared_by : (b : Bool) (state : ℕ) → (state / 16 % 2 == 1) ≡ b → ((if b then state - mark else state) / 16 % 2 == 1) ≡ false
-cleared_by true state is =
-    let odd : state / 16 % 2 ≡ 1 = eqb-true (state / 16 % 2) 1 is in
-    let even : (state - 16) / 16 % 2 ≢ 1 = λ same. omega (arith, odd, same) in
-    ne_eqb ((state - mark) / 16 % 2) 1 even
-cleared_by false state is = is
-
-pub unmarked_is : (init : ℕ) (array : Array) → is_marked (unmarked init array) ≡ false
-unmarked_is init array = cleared_by (is_marked array) array.state refl
-
 pub unmarked_same : (init : ℕ) (array : Array) → IsSameButMark array (unmarked init array)
 unmarked_same init array = record { same_secondary = refl; same_elements = refl }
 
-positions_without : (positions : List Position) → AreLessPositions positions (map without_row positions)
+pub positions_without : (positions : List Position) → AreLessPositions positions (map without_row positions)
 positions_without [] = tt
 positions_without (position ∷ positions) = (inr (refl, refl, refl, inl refl), positions_without positions)
 
-parts_without : (known : List (Option ElementValue)) → AreLessParts known (map (option_map without_rows) known)
+pub parts_without : (known : List (Option ElementValue)) → AreLessParts known (map (option_map without_rows) known)
 parts_without [] = tt
 parts_without (None ∷ known) = (tt, parts_without known)
 parts_without (Some element ∷ known) =
@@ -62,7 +38,7 @@ marked_less array = record { same_secondary = refl; mark_is = inl (marked_is arr
 pub rewound_less : (array : Array) → IsLessArray array (rewound array)
 rewound_less array = record { same_secondary = refl; mark_is = inr refl; less = parts_without array.elements }
 
-positions_stay : (current : ℕ → Bool) (positions : List Position) → AreStaying current positions (map without_row positions)
+pub positions_stay : (current : ℕ → Bool) (positions : List Position) → AreStaying current positions (map without_row positions)
 positions_stay current [] = tt
 positions_stay current (position ∷ positions) = (inr (refl, refl, refl), positions_stay current positions)
 

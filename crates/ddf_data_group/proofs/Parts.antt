@@ -4,12 +4,13 @@ use Rattle.std.specs.Prelude.{is_none, is_some, nat_le, option_map, count_by, if
 use Rattle.std.specs.List.{cons_option, list_all, list_any}
 use Rattle.std.proofs.lemmas.Bool.{leb-true, le-leb}
 use Rattle.std.proofs.lemmas.List.Sums.{sum_by-cons}
+use Rattle.ddf_lemmas.proofs.Tests.{and_first, and_second, code_of_several, true_false}
 use Rattle.ddf_primary.specs.Placement.{Placement}
 use Rattle.ddf_primary.specs.declared.need.Need.{Need}
 use Rattle.ddf_primary.specs.declared.need.Need.TheVariants.{All, One, AllButOne, Neighbours}
 use Rattle.ddf_primary.specs.Needs.{need_of}
 use Rattle.ddf_primary.proofs.Enough.{enough_more}
-use Rattle.ddf_array.proofs.Told.{shape_coded}
+use Rattle.ddf_array.proofs.Told.{shape_coded, every_by}
 use Rattle.ddf_config.specs.declared.array.Array.{Array}
 use Rattle.ddf_config.specs.declared.element.Position.{Position}
 use Rattle.ddf_config.specs.declared.member.Member.{Member}
@@ -27,11 +28,10 @@ use Rattle.ddf_array.specs.Places.{is_available}
 use Rattle.ddf_array.specs.Viewing.{known_part, place_of, seat_slot}
 use Rattle.ddf_array.specs.Volume.{Volume}
 use Rattle.ddf_array.specs.Within.{is_mirrored, is_part_within}
-use Rattle.ddf_array.proofs.Bools.{and_first, and_second}
 use Rattle.ddf_secondary.specs.Arrangement.{served_level, takes_count, takes_units}
 use Rattle.ddf_data_group.specs.Over.{AreCurrentSeats, IsOver, absent_in, lacks_disk, part_lacks}
 use Rattle.ddf_data_group.proofs.Lessened.{slot_ends}
-use Rattle.ddf_data_group.proofs.Levels.{every_by, several, tiers_level}
+use Rattle.ddf_data_group.proofs.Levels.{tiers_level}
 
 -- ---- the element of a part
 
@@ -97,10 +97,7 @@ mirrored_is seats array v over =
     let level = tiers_level (sizes array) v.tiers code (served_level code) (takes_count (sizes array)) (λ level. takes_units level (sizes array)) over.tiers_are in
     ap (λ (m : ℕ). is_in_every v.tiers.level && nat_le 2 m) (ap length over.parts_are ∙ count_parts seats n array.elements over.complete over.shapes)
     ∙ ap (λ b. b && nat_le 2 n) (every_by code v.tiers.level level)
-    ∙ several n array.secondary (nat_le 2 n) refl
-
-true_false : (b : Bool) → b ≡ true → b ≡ false → ⊥
-true_false b a c = cc
+    ∙ code_of_several n array.secondary (nat_le 2 n) refl
 
 -- ---- available by the seats, and by the members alone
 

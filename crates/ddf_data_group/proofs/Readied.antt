@@ -1,9 +1,11 @@
 -- What changes ask for, where an array is redundant, and where each current member has a seat.
-use Rattle.std.proofs.Common.{◌≡◌, ◌∙◌, ℕ, zero, suc, ◌+◌, Bool, true, false, List, [], ◌∷◌, Option, Some, None, Ok, refl, sym, ap, slice_get, ◌&&◌}
+use Rattle.std.proofs.Common.{◌≡◌, ◌∙◌, ℕ, ◌+◌, Bool, true, false, List, Option, Some, None, Ok, refl, sym, ap, slice_get, ◌&&◌}
 use Rattle.std.specs.Prelude.{is_none, is_some, nat_le, nat_lt, if◌then◌else◌}
 use Rattle.std.specs.List.{list_any}
 use Rattle.std.specs.Map.{lookup}
 use Rattle.std.proofs.lemmas.Bool.{le-leb, ltb-false}
+use Rattle.ddf_lemmas.proofs.Lists.{any_none, mapped_at}
+use Rattle.ddf_lemmas.proofs.Options.{same_some}
 use Rattle.ddf_bay.specs.Sectors.{Image}
 use Rattle.ddf_config.specs.declared.array.Array.{Array}
 use Rattle.ddf_config.specs.declared.element.Position.{Position}
@@ -19,10 +21,7 @@ use Rattle.ddf_array.specs.Redundant.{IsRedundant}
 use Rattle.ddf_array.specs.Viewing.{seat_slot, view_of}
 use Rattle.ddf_array.specs.Volume.{Volume, IsVolume}
 use Rattle.ddf_array.specs.Within.{is_within}
-use Rattle.ddf_array.proofs.Bools.{or_first, or_second}
 use Rattle.ddf_array.proofs.Consistent.{to_flat}
-use Rattle.ddf_array.proofs.Fewer.{same_array}
-use Rattle.ddf_array.proofs.Losses.{mapped_at}
 use Rattle.ddf_array.proofs.Usable.{below_floors}
 use Rattle.ddf_array.proofs.Viewed.{from_view}
 use Rattle.ddf_cells.specs.Degraded.{is_degraded}
@@ -40,17 +39,12 @@ pub redundant_may : (is_absent : ℕ → ℕ → Bool) (v : Volume) (image : Ima
 redundant_may is_absent v image allowed known within whole is rows kept =
     record { consistent = whole_consistent is_absent v image whole is; rows = rows; may = value_may is_absent v image allowed kept is (have_cells v known within whole) }
 
-none_passes : {X : Type 0} (test : X → Bool) (xs : List X) → list_any test xs ≡ false → (k : ℕ) (x : X) → slice_get xs k ≡ Some x → test x ≡ false
-none_passes test [] none k x at = absurd (cc)
-none_passes test (y ∷ xs) none zero x at = let same : y ≡ x = cc in ap test (sym same) ∙ or_first (test y) (list_any test xs) none
-none_passes test (y ∷ xs) none (suc k) x at = none_passes test xs (or_second (test y) (list_any test xs) none) k x at
-
 module _ (config : Configuration) (guid : List ℕ) (seats : List Seat) (v : Volume) (view : view_of config guid seats ≡ Ok v) (array : Array) (found : lookup (same_guid guid) config.arrays ≡ Some array)
     (seated : (reference : ℕ) → is_current config.members reference ≡ true → is_some (floor_of seats reference) ≡ true) where
   below : list_any (passes_floor seats) (array_extents array) ≡ false
   below =
       let from = from_view config guid seats v view in
-      let same = same_array (lookup (same_guid guid) config.arrays) from.array array from.array_is found in
+      let same = same_some (lookup (same_guid guid) config.arrays) from.array array from.array_is found in
       ap (λ (a : Array). list_any (passes_floor seats) (array_extents a)) (sym same) ∙ below_floors config.members seats (extents config.arrays) guid from.array from.usable
 
   module _ (e p : ℕ) (element : ElementValue) (position : Position) (is_element : slice_get array.elements e ≡ Some (Some element)) (is_position : slice_get element.positions p ≡ Some position) where
@@ -60,7 +54,7 @@ module _ (config : Configuration) (guid : List ℕ) (seats : List Seat) (v : Vol
     stays_below : passes_floor seats (extent element.blocks position) ≡ false
     stays_below =
         let at = to_flat part_extents array.elements e p (Some element) (extent element.blocks position) is_element (mapped_at (extent element.blocks) element.positions p position is_position) in
-        none_passes (passes_floor seats) (array_extents array) below at.0 (extent element.blocks position) at.1
+        any_none (passes_floor seats) (array_extents array) below at.0 (extent element.blocks position) at.1
 
     by_floor : (floor : Option ℕ) → is_some floor ≡ true → ◌≡◌ {A = Bool} (elim floor [ None ↦ false | Some f ↦ nat_lt f (position.start + element.blocks) ]) false
         → ◌≡◌ {A = Bool} (is_none (elim floor [ None ↦ None | Some f ↦ if nat_le (position.start + element.blocks) f then Some (slot_of seats position.reference) else None ])) false

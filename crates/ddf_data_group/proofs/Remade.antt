@@ -5,6 +5,7 @@ use Rattle.std.specs.Prelude.{is_some, option_and_then, option_map, ◌==◌, if
 use Rattle.std.specs.Result.{result_ok}
 use Rattle.std.specs.List.{cons_option, list_all}
 use Rattle.std.proofs.lemmas.Bool.{cases_eq}
+use Rattle.ddf_lemmas.proofs.Tests.{and_first, and_second}
 use Rattle.ddf_primary.specs.Placement.{Placement}
 use Rattle.ddf_primary.specs.Levels.{shape_of}
 use Rattle.ddf_secondary.specs.Arrangement.{tiers_of}
@@ -20,7 +21,6 @@ use Rattle.ddf_array.specs.declared.part.Part.{Part}
 use Rattle.ddf_array.specs.declared.place.Place.{Place}
 use Rattle.ddf_array.specs.Viewing.{known_part, parts_of, place_of}
 use Rattle.ddf_array.specs.Volume.{Volume, volume, IsPart, IsVolume, size_of}
-use Rattle.ddf_array.proofs.Bools.{and_first, and_second}
 use Rattle.ddf_data_array.specs.Changing.{changed_item}
 use Rattle.ddf_data_array.proofs.Items.{changed_at, changed_length, unchanged_at}
 use Rattle.ddf_data_group.specs.Over.{IsOver, absent_in, lacks_disk, part_lacks}

@@ -1,6 +1,8 @@
 -- Where positions stay, or their disks are lost, the parity of elements stays.
 use Rattle.std.proofs.Common.{◌≡◌, ◌∙◌, inl, inr, ⊎_elim, ℕ, zero, suc, Bool, true, false, List, [], ◌∷◌, Option, Some, None, refl, sym, ap, subst, map, slice_get, ◌&&◌}
-use Rattle.std.specs.Prelude.{is_none, is_some}
+use Rattle.std.specs.Prelude.{is_none}
+use Rattle.ddf_lemmas.proofs.Options.{no_first_of_and_some}
+use Rattle.ddf_lemmas.proofs.Tests.{true_false}
 use Rattle.ddf_config.specs.declared.array.Array.{Array}
 use Rattle.ddf_config.specs.declared.element.Position.{Position}
 use Rattle.ddf_config.specs.declared.extent.Extent.{Extent}
@@ -19,13 +21,6 @@ use Rattle.ddf_data_group.specs.Lessening.{AllStay, AreLessParts, AreStaying, Is
 use Rattle.ddf_data_group.proofs.Lessened.{slot_ends, slot_lost}
 use Rattle.ddf_data_group.proofs.LessRows.{element_less}
 use Rattle.ddf_data_group.proofs.Parts.{absent_is, of_part}
-
-true_false : (b : Bool) → b ≡ true → b ≡ false → ⊥
-true_false b a c = cc
-
-out_one : (synced : Bool) (slot : Option ℕ) → synced ≡ false → (synced && is_some slot) ≡ false
-out_one true slot e = absurd (cc)
-out_one false slot e = refl
 
 and_none : (a : Bool) (o : Option ℕ) → o ≡ None → (a && is_none o) ≡ false → a ≡ false
 and_none true None e f = absurd (cc)
@@ -56,7 +51,7 @@ module _ (members after_members : List (ℕ × Member)) (same_current : (referen
         → IsAlikePlace (place_of seats one.blocks before) (place_of fewer other.blocks after)
     alike before after staying lacks =
         ⊎_elim
-        (λ out. inl (out_one after.synced (seat_slot fewer (extent other.blocks after)) out.0, out_one before.synced (seat_slot seats (extent one.blocks before)) out.1, out.0 ∙ sym out.1))
+        (λ out. inl (no_first_of_and_some after.synced (seat_slot fewer (extent other.blocks after)) out.0, no_first_of_and_some before.synced (seat_slot seats (extent one.blocks before)) out.1, out.0 ∙ sym out.1))
         (λ same. inr (
           same.0,
           same.2,

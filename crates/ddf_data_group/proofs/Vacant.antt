@@ -1,7 +1,8 @@
 -- The position at which a rebuild begins is out of sync, on a disk that is no current member's.
-use Rattle.std.proofs.Common.{◌≡◌, ◌∙◌, ℕ, zero, suc, ◌+◌, ◌<◌, Bool, true, false, not, List, [], ◌∷◌, ◌++◌, Option, Some, None, Result, Ok, cond, find, refl, sym, ap, subst, arith, length, slice_get}
+use Rattle.std.proofs.Common.{◌≡◌, ◌∙◌, ℕ, zero, suc, ◌+◌, ◌<◌, Bool, true, false, List, [], ◌∷◌, ◌++◌, Option, Some, None, Result, Ok, cond, find, refl, sym, ap, subst, arith, length, slice_get}
 use Rattle.std.specs.List.{enumerate_from}
 use Rattle.std.specs.Map.{lookup}
+use Rattle.std.proofs.lemmas.Bool.{not-false, not-true}
 use Rattle.ddf_bay.specs.Sectors.{Image}
 use Rattle.ddf_config.specs.declared.array.Array.{Array}
 use Rattle.ddf_config.specs.declared.element.Position.{Position}
@@ -79,14 +80,6 @@ pub record IsFirst (n : ℕ) (parts : List (Option ElementValue)) (at : Place) :
   pub none_before : (earlier : ℕ) (one : Position) → earlier < at.1 → slice_get plan.positions earlier ≡ Some one → one.synced ≡ true
   pub same_reference : at.2 ≡ held.reference
 
-not_true : (b : Bool) → not b ≡ true → b ≡ false
-not_true true e = absurd (cc)
-not_true false e = refl
-
-not_false : (b : Bool) → not b ≡ false → b ≡ true
-not_false true e = refl
-not_false false e = absurd (cc)
-
 later_first : (n : ℕ) (part : Option ElementValue) (parts : List (Option ElementValue)) (at : Place) → IsFirst (n + 1) parts at → IsFirst n (part ∷ parts) at
 later_first n part parts at is = record {
   place = suc is.place;
@@ -121,8 +114,8 @@ out_first elements n (Some plan ∷ parts) at h = by (out_in plan) refl (out_fir
           is_plan = refl;
           held = one.1;
           is_held = ap (slice_get plan.positions) (sym place) ∙ found.there;
-          is_out_of_sync = not_true one.1.synced found.passes;
-          none_before = λ earlier before less is_before. not_false before.synced (found.first earlier before (omega (arith, less, place)) is_before);
+          is_out_of_sync = not-true one.1.synced found.passes;
+          none_before = λ earlier before less is_before. not-false before.synced (found.first earlier before (omega (arith, less, place)) is_before);
           same_reference = ap (λ (p : Place). p.2) (sym same);
         }
 

@@ -4,36 +4,22 @@ use Rattle.ddf_bytes.specs.Counts.{Rose}
 use Rattle.ddf_bay.specs.Sectors.{Image}
 use Rattle.ddf_config.specs.declared.seat.Seat.{Seat}
 use Rattle.ddf_config.specs.Configuration.{Configuration}
-use Rattle.ddf_config.specs.Extents.{extents}
 use Rattle.ddf_array.specs.Volume.{Volume, IsVolume}
 use Rattle.ddf_array.specs.Losing.{AreFewer}
 use Rattle.ddf_array.specs.Sources.{sources}
 use Rattle.ddf_array.specs.Viewing.{view_of}
-use Rattle.ddf_array.proofs.Usable.{complete, shapes}
 use Rattle.ddf_array.proofs.Viewed.{from_view}
 use Rattle.ddf_read.specs.Reading.{IsGivenBy}
 use Rattle.ddf_data_array.specs.Allowed.{Allowed, May}
 use Rattle.ddf_data_array.proofs.Given.{read_may}
-use Rattle.ddf_data_group.specs.Over.{IsOver, absent_in}
+use Rattle.ddf_data_group.specs.Over.{absent_in}
 use Rattle.ddf_data_group.specs.Grouped.{Promises}
 use Rattle.ddf_data_group.proofs.Keeping.{kept_fewer}
 use Rattle.ddf_history.specs.Issued.{Past, IsSince}
 use Rattle.ddf_history.specs.Groups.{groups}
+use Rattle.ddf_data_group.proofs.Common.{view_over}
 use Rattle.ddf_data_history.specs.Promised.{KeepsData, seats_in}
 use Rattle.ddf_data_history.proofs.Steps.{seats_are}
-
--- a view is of an array over its seats
-pub view_over : (config : Configuration) (guid : List ℕ) (seats : List Seat) (v : Volume) → IsVolume v → (e : view_of config guid seats ≡ Ok v) → IsOver seats (from_view config guid seats v e).array v
-view_over config guid seats v known e =
-    let view = from_view config guid seats v e in
-    record {
-      tiers_are = view.tiers_are;
-      parts_are = view.parts_are;
-      marked_is = view.marked_is;
-      is_volume = known;
-      complete = complete config.members seats (extents config.arrays) guid view.array view.usable;
-      shapes = shapes config.members seats (extents config.arrays) guid view.array view.usable;
-    }
 
 pub read_since : (group : List ℕ) (floor : ℕ → ℕ) → ((slot : ℕ) → floor slot < 2 ^ 64) → (past : Past (groups group)) (number : ℕ) (config : Configuration) → IsSince past.changes number config
     → (image : Image) (promises : Promises) → KeepsData group past floor image promises → (seats : List Seat) → AreFewer (seats_in group past floor config) seats

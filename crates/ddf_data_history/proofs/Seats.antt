@@ -7,6 +7,7 @@ use Rattle.std.specs.Map.{lookup}
 use Rattle.std.specs.Option.{option_map_or}
 use Rattle.std.specs.Str.{bytes_eq}
 use Rattle.std.proofs.lemmas.Bool.{cases_eq, eq-eqb, eqb-true, ne_eqb}
+use Rattle.ddf_lemmas.proofs.Tests.{and_second, true_false}
 use Rattle.ddf_config.specs.declared.member.Member.{Member}
 use Rattle.ddf_config.specs.declared.seat.Seat.{Seat}
 use Rattle.ddf_config.specs.Configuration.{Configuration}
@@ -14,14 +15,10 @@ use Rattle.ddf_config.specs.Members.{is_current}
 use Rattle.ddf_config.specs.Seats.{floor_of, slot_of}
 use Rattle.ddf_array.specs.Apart.{AreSeats}
 use Rattle.ddf_array.specs.Losing.{AreFewer}
-use Rattle.ddf_array.proofs.Bools.{and_second}
-use Rattle.ddf_cells.proofs.Lists.{in_filter}
+use Rattle.ddf_array.proofs.Consistent.{in_filter}
 use Rattle.ddf_data_group.specs.Over.{AreCurrentSeats}
 use Rattle.ddf_history.specs.Groups.{Disk, has_current}
 use Rattle.ddf_data_history.specs.Promised.{seat_if}
-
-true_false : (b : Bool) → b ≡ true → b ≡ false → ⊥
-true_false b a c = cc
 
 eq_turned : (a b : ℕ) → (a == b) ≡ (b == a)
 eq_turned a b = ⊎_elim (λ same. eq-eqb a b same ∙ sym (eq-eqb b a (sym same))) (λ apart. ne_eqb a b apart ∙ sym (ne_eqb b a (λ same. apart (sym same)))) (cases_eq a b)

@@ -1,19 +1,20 @@
 -- Each step of a history keeps the data of its group.
-use Rattle.std.proofs.Common.{◌≡◌, ◌∙◌, ⊎_elim, ℕ, zero, suc, ◌+◌, ◌<◌, ◌≤◌, ◌^◌, Bool, true, false, not, List, [], ◌∷◌, Option, Some, refl, sym, ap, subst, arith, slice_get, nat_eq, ◌&&◌}
+use Rattle.std.proofs.Common.{◌≡◌, ◌∙◌, ⊎_elim, ℕ, zero, suc, ◌+◌, ◌<◌, ◌≤◌, ◌^◌, Bool, true, false, not, List, [], ◌∷◌, Option, Some, refl, sym, ap, subst, arith, slice_get, ◌&&◌}
 use Rattle.std.proofs.Math.Path.{fun_ext}
 use Rattle.std.specs.Prelude.{filter_map, ◌==◌, if◌then◌else◌}
 use Rattle.std.specs.List.{range_with_len}
 use Rattle.std.specs.Map.{lookup}
-use Rattle.std.proofs.lemmas.Bool.{cases_eq, eq-eqb, ne_eqb}
+use Rattle.std.proofs.lemmas.Bool.{cases_eq, ne_eqb, and_from, not-true}
+use Rattle.ddf_lemmas.proofs.Tests.{and_first, and_second, not_back, true_false}
 use Rattle.ddf_bay.specs.Sectors.{Image}
 use Rattle.ddf_config.specs.declared.array.Array.{Array}
 use Rattle.ddf_config.specs.Configuration.{Configuration}
 use Rattle.ddf_config.specs.Members.{same_guid}
+use Rattle.ddf_config.proofs.Common.{same_self}
 use Rattle.ddf_plan.specs.Changes.{changed_at}
 use Rattle.ddf_array.specs.Losing.{AreFewer}
 use Rattle.ddf_array.specs.Volume.{Volume}
 use Rattle.ddf_array.specs.Sound.{AreSectors}
-use Rattle.ddf_array.proofs.Bools.{and_first, and_second}
 use Rattle.ddf_data_array.specs.Allowed.{Allowed}
 use Rattle.ddf_data_array.specs.Rows.{AreAlikeThroughout}
 use Rattle.ddf_data_array.proofs.Same.{kept_same}
@@ -35,26 +36,6 @@ use Rattle.ddf_history.proofs.Sound.{groups_are_sound}
 use Rattle.ddf_data_history.specs.Promised.{AreAlone, IsAlone, KeepsData, OthersStay, SameBelow, is_seat, seat_if, seats_in, with_promise}
 use Rattle.ddf_data_history.specs.History.{Moment, IsJoin, IsPlanned, IsIssue, IsSettling, IsLoss, IsReturn, IsRecords, IsData, IsDropped, IsPromised, IsStep, IsHistory, Keeps}
 use Rattle.ddf_data_history.proofs.Seats.{are_current, are_fewer, is_at}
-
-not_true : (b : Bool) → not b ≡ true → b ≡ false
-not_true true e = absurd (cc)
-not_true false e = refl
-
-true_false : (b : Bool) → b ≡ true → b ≡ false → ⊥
-true_false b a c = cc
-
-not_back : (b : Bool) → (b ≡ true → ⊥) → not b ≡ true
-not_back true never = absurd (never refl)
-not_back false never = refl
-
-and_both : (a b : Bool) → a ≡ true → b ≡ true → (a && b) ≡ true
-and_both true b e f = f
-and_both false b e f = e
-
--- a GUID is the same as itself
-same_self : (xs : List ℕ) → same_guid xs xs ≡ true
-same_self [] = refl
-same_self (x ∷ xs) = and_both (nat_eq x x) (same_guid xs xs) (eq-eqb x x refl) (same_self xs)
 
 same_text_back : (xs ys : List ℕ) → xs ≡ ys → same_guid xs ys ≡ true
 same_text_back xs ys e = subst (λ (l : List ℕ). same_guid xs l ≡ true) e (same_self xs)
@@ -80,8 +61,8 @@ module _ (group : List ℕ) (floor : ℕ → ℕ) (small : (slot : ℕ) → floo
         let old : IsSince past.changes number config = record { late = since.late; is_there = since.is_there } in
         kept_fewer config.members (seats_in group past floor config) (seats_in group (with_slots past lost returned) floor config) array image allowed (seats_are past config)
         (are_fewer floor past.disk (is_seat group past config) (is_seat group (with_slots past lost returned) config) past.slots
-        (λ slot e. and_both (not (past.lost slot)) (has_current config (past.disk slot))
-        (not_back (past.lost slot) (λ gone. true_false (lost slot) (stay slot gone) (not_true (lost slot) (and_first (not (lost slot)) (has_current config (past.disk slot)) e))))
+        (λ slot e. and_from (not (past.lost slot)) (has_current config (past.disk slot))
+        (not_back (past.lost slot) (λ gone. true_false (lost slot) (stay slot gone) (not-true (lost slot) (and_first (not (lost slot)) (has_current config (past.disk slot)) e))))
         (and_second (not (lost slot)) (has_current config (past.disk slot)) e))
         (one_slot past alone number config old))
         (kept number config old guid allowed array promised found)
@@ -182,7 +163,7 @@ module _ (group : List ℕ) (floor : ℕ → ℕ) (small : (slot : ℕ) → floo
       → ((disk : Disk) → has_current next disk ≡ true → has_current last disk ≡ true) → AreFewer (seats_in group past floor last) (seats_in group past floor next)
   plan_fewer past alone number last since next less =
       are_fewer floor past.disk (is_seat group past last) (is_seat group past next) past.slots
-      (λ slot e. and_both (not (past.lost slot)) (has_current last (past.disk slot)) (and_first (not (past.lost slot)) (has_current next (past.disk slot)) e)
+      (λ slot e. and_from (not (past.lost slot)) (has_current last (past.disk slot)) (and_first (not (past.lost slot)) (has_current next (past.disk slot)) e)
       (less (past.disk slot) (and_second (not (past.lost slot)) (has_current next (past.disk slot)) e)))
       (one_slot past alone number last since)
 

@@ -1,6 +1,8 @@
 -- What is done to an array by a view keeps the data of its group.
 use Rattle.std.proofs.Common.{◌≡◌, ◌∙◌, inl, ℕ, ◌<◌, ◌^◌, ◌⊎◌, Bool, not, List, Option, Some, None, Ok, refl, sym, ap, subst, arith, slice_get}
 use Rattle.std.specs.Map.{lookup}
+use Rattle.ddf_lemmas.proofs.Tests.{and_second}
+use Rattle.ddf_lemmas.proofs.Options.{same_some}
 use Rattle.ddf_bay.specs.Sectors.{Image}
 use Rattle.ddf_secondary.specs.Arrangement.{Arrangement}
 use Rattle.ddf_config.specs.declared.array.Array.{Array}
@@ -14,7 +16,6 @@ use Rattle.ddf_array.specs.Sound.{AreSectors}
 use Rattle.ddf_array.specs.Viewing.{view_of}
 use Rattle.ddf_array.specs.Volume.{Volume, volume, IsVolume}
 use Rattle.ddf_array.proofs.Apart.{view_apart}
-use Rattle.ddf_array.proofs.Bools.{and_second}
 use Rattle.ddf_cells.specs.Writing.{StaysBut}
 use Rattle.ddf_write.specs.Writing.{HasWritten, IsLeftByWrite}
 use Rattle.ddf_resync.specs.Resyncing.{MayResync}
@@ -37,20 +38,11 @@ use Rattle.ddf_data_history.specs.Promised.{IsAlone, KeepsData, is_seat, seats_i
 use Rattle.ddf_data_history.proofs.Seats.{are_seats}
 use Rattle.ddf_data_history.proofs.Steps.{by_data, seats_are}
 
--- an array is one volume over seats
-same_tiers : (o : Option Arrangement) (one other : Arrangement) → o ≡ Some one → o ≡ Some other → one ≡ other
-same_tiers None one other a b = absurd (cc)
-same_tiers (Some tiers) one other a b = cc
-
-over_unique : (seats : List Seat) (array : Array) (v w : Volume) → IsOver seats array v → IsOver seats array w → v ≡ w
+pub over_unique : (seats : List Seat) (array : Array) (v w : Volume) → IsOver seats array v → IsOver seats array w → v ≡ w
 over_unique seats array v w one other =
     ap (λ (b : Bool). volume b v.tiers v.parts) (one.marked_is ∙ sym other.marked_is)
-    ∙ ap (λ (t : Arrangement). volume w.marked t v.parts) (same_tiers (array_tiers array) v.tiers w.tiers one.tiers_are other.tiers_are)
+    ∙ ap (λ (t : Arrangement). volume w.marked t v.parts) (same_some (array_tiers array) v.tiers w.tiers one.tiers_are other.tiers_are)
     ∙ ap (λ (l : List Part). volume w.marked w.tiers l) (one.parts_are ∙ sym other.parts_are)
-
-same_array : (o : Option Array) (one other : Array) → o ≡ Some one → o ≡ Some other → one ≡ other
-same_array None one other a b = absurd (cc)
-same_array (Some array) one other a b = cc
 
 -- the seats of a configuration are members', and no slot has the seats of two
 pub are_members : (group : List ℕ) (floor : ℕ → ℕ) (past : Past (groups group)) (config : Configuration) → AreSeats config.members (seats_in group past floor config)
@@ -78,7 +70,7 @@ module _ (group : List ℕ) (floor : ℕ → ℕ) (small : (slot : ℕ) → floo
   by_view new step changes =
       by_data group floor small past before promises kept image are config alone guid new
       (λ array found number since w over.
-      let one = same_array (lookup (same_guid guid) config.arrays) (use_of).array array (use_of).is_found found in
+      let one = same_some (lookup (same_guid guid) config.arrays) (use_of).array array (use_of).is_found found in
       let here : IsOver seats array v = subst (λ (a : Array). IsOver seats a v) one (use_of).over in
       let absent = absent_in config.members seats array.elements in
       subst (λ (x : Volume). IsKeptData absent x image new) (over_unique seats array v w here over)

@@ -3,6 +3,7 @@ use Rattle.std.proofs.Common.{◌≡◌, ◌∙◌, ℕ, zero, suc, ◌<◌, ◌
 use Rattle.std.proofs.lemmas.Bool.{false_from_ne_true}
 use Rattle.std.specs.Prelude.{IsTrue, option_to_list, slice_index_or}
 use Rattle.std.specs.List.{AllByRecursion}
+use Rattle.ddf_lemmas.proofs.Lists.{in_map}
 use Rattle.ddf_bay.specs.Memory.{disks_of}
 use Rattle.ddf_bay.specs.ReadsOnly.{LookFailed}
 use Rattle.ddf_bay.specs.declared.memory.MemoryBay.{MemoryBay}
@@ -18,7 +19,7 @@ use Rattle.ddf_plan.specs.declared.change.Change.TheVariants.{Create, Mark, Unma
 use Rattle.ddf_plan.specs.Members.{member_after}
 use Rattle.ddf_plan.specs.Same.{is_step}
 use Rattle.ddf_array.specs.Viewing.{is_array_redundant}
-use Rattle.ddf_rewrite.proofs.Lists.{map_get, some_same}
+use Rattle.ddf_rewrite.proofs.Lists.{some_same}
 use Rattle.ddf_history.specs.Groups.{Disk, groups, has_current}
 use Rattle.ddf_history.specs.Issued.{IsSince, leave_out}
 use Rattle.ddf_history.specs.Scenes.{scene_of}
@@ -217,7 +218,7 @@ module _ (group : List ℕ) (old : Moment group MemoryBay) (all : IsDataHistoryO
       let may = readable group old.past old.bay exit all.history well told left every_slot failed member unread in
       let has = has_member group old.past old.bay exit all.history well told left every_slot failed member unread in
       let placed = slot_placed (slots_of found.seats) slot is_seated in
-      let seat = map_get (λ (each : Seat). each.slot) found.seats placed.0 slot placed.1 in
+      let seat = in_map (λ (each : Seat). each.slot) found.seats placed.0 slot placed.1 in
       let listed = recovered_listed group (disks_of old.bay) left newest every_slot read old.past all.history.same_slots kept may has (Some group) found is_found own
       old.floor (by_held group disks_of bays old.past old.floor old.bay all.keeps.floored (before_told old.bay exit well told)) placed.0 seat.0 seat.1 in
       subst (λ (n : ℕ). has_current (config_recovered found) (old.past.disk n) ≡ true) seat.2

@@ -1,7 +1,8 @@
 -- A life of a group and of its data on disks in memory, step by step.
-use Rattle.std.proofs.Common.{◌≡◌, ◌≢◌, ◌&&◌, nat_eq, ◌⊎◌, ◌∙◌, ℕ, zero, suc, ◌<◌, ◌+◌, ◌++◌, Bool, true, false, List, [], ◌∷◌, length, Option, Some, None, Result, Ok, if◌then◌else◌, refl, sym, ap, subst, inl, inr, ⊎_elim, arith}
-use Rattle.std.proofs.lemmas.Bool.{eq-eqb, false_from_ne_true}
-use Rattle.std.specs.Prelude.{IsTrue, is_some, option_map, slice_index_or, slice_set}
+use Rattle.std.proofs.Common.{◌≡◌, ◌⊎◌, ◌∙◌, ℕ, ◌<◌, ◌+◌, ◌++◌, Bool, true, false, List, [], ◌∷◌, length, Option, Some, None, Result, Ok, if◌then◌else◌, refl, sym, ap, subst, inl, inr, ⊎_elim, arith}
+use Rattle.std.proofs.lemmas.Bool.{false_from_ne_true}
+use Rattle.std.specs.Prelude.{IsTrue, is_some, option_map, slice_index_or}
+use Rattle.ddf_lemmas.proofs.Lists.{set_true_other}
 use Rattle.ddf_bytes.specs.declared.stamp.Stamp.{Stamp}
 use Rattle.ddf_header.specs.declared.kind.Revision.{Revision}
 use Rattle.ddf_bay.specs.Sectors.{Image}
@@ -9,7 +10,6 @@ use Rattle.ddf_bay.specs.Memory.{MemoryState, disks_of}
 use Rattle.ddf_bay.specs.ReadsOnly.{LookFailed}
 use Rattle.ddf_bay.specs.declared.memory.MemoryBay.{MemoryBay}
 use Rattle.ddf_config.specs.Configuration.{Configuration}
-use Rattle.ddf_config.specs.Members.{same_guid}
 use Rattle.ddf_copy.specs.declared.newest_copy.Newest.{Newest}
 use Rattle.ddf_plan.specs.declared.change.Change.TheVariants.{Create}
 use Rattle.ddf_array.specs.Values.{value}
@@ -17,7 +17,8 @@ use Rattle.ddf_array.specs.Volume.{IsVolume, capacity}
 use Rattle.ddf_array.specs.Within.{is_within}
 use Rattle.ddf_array.proofs.Losses.{some_value}
 use Rattle.ddf_update.specs.NewCopies.{group_of as name_of}
-use Rattle.ddf_data_array.specs.Allowed.{Allowed, IsOneOf, May, any_bytes, is_in, new_bytes, once_consistent, once_written, while_written}
+use Rattle.ddf_config.proofs.Common.{same_self}
+use Rattle.ddf_data_array.specs.Allowed.{Allowed, May, any_bytes, is_in, new_bytes, once_consistent, once_written, while_written}
 use Rattle.ddf_data_group.specs.Grouped.{Promises}
 use Rattle.ddf_history.specs.Groups.{Disk, groups, has_current}
 use Rattle.ddf_history.specs.Issued.{IsSince, Past}
@@ -29,6 +30,7 @@ use Rattle.ddf_assembly.specs.Slots.{newest_from}
 use Rattle.ddf_history_steps.specs.Going.{Ends, Goes, IsOver, changes_in}
 use Rattle.ddf_history_steps.specs.Kept.{is_read}
 use Rattle.ddf_history_steps.proofs.SlotsKept.{ends_slots}
+use Rattle.ddf_data_array.proofs.Written.{may_old}
 use Rattle.ddf_data_history.specs.Promised.{with_promise}
 use Rattle.ddf_answer.specs.declared.failure.Failure.{Failure}
 use Rattle.ddf_disk_commands.specs.Label.{label_copy}
@@ -60,41 +62,15 @@ use Rattle.ddf_data_life.proofs.Printed.{printed}
 
 -- ---- slots and promises
 
--- A slot that isn't the one that was unplugged is as it was.
-set_other : (unplugged : List Bool) (slot s : ℕ) → s ≢ slot → slice_index_or (slice_set unplugged slot true) s false ≡ true → slice_index_or unplugged s false ≡ true
-set_other [] slot s apart is = is
-set_other (one ∷ others) zero zero apart is = absurd (apart refl)
-set_other (one ∷ others) zero (suc s) apart is = is
-set_other (one ∷ others) (suc slot) zero apart is = is
-set_other (one ∷ others) (suc slot) (suc s) apart is = set_other others slot s (λ same. apart (ap suc same)) is
-
-same_self : (guid : List ℕ) → same_guid guid guid ≡ true
-same_self [] = refl
-same_self (x ∷ guid) = both (nat_eq x x) (same_guid guid guid) (eq-eqb x x refl) (same_self guid)
-  where
-    both : (a b : Bool) → a ≡ true → b ≡ true → (a && b) ≡ true
-    both true b here rest = rest
-    both false b here rest = here
-
 -- what is promised of an array from now on
 with_own : (promises : Promises) (guid : List ℕ) (new : Option Allowed) → with_promise promises guid new guid ≡ new
 with_own promises guid new = ap (λ (b : Bool). if b then new else promises guid) (same_self guid)
-
--- Bytes that a block might have before a write was interrupted it may have behind it.
-may_more : (old : List (List ℕ)) (one bytes : List ℕ) → IsOneOf old bytes → IsOneOf (old ++ one ∷ []) bytes
-may_more [] one bytes is = absurd (let at = is.1 in cc)
-may_more (first ∷ old) one bytes (zero, at) = (0, at)
-may_more (first ∷ old) one bytes (suc k, at) = let rest = may_more old one bytes (k, at) in (suc rest.0, rest.1)
-
-may_still : (old : Option (List (List ℕ))) (one bytes : List ℕ) → May old bytes → May (option_map (λ all. all ++ one ∷ []) old) bytes
-may_still None one bytes may = tt
-may_still (Some all) one bytes may = may_more all one bytes may
 
 may_while : (allowed : Allowed) (start : ℕ) (sectors : List (List ℕ)) (block : ℕ) (bytes : List ℕ) → May (allowed block) bytes → May (while_written allowed start sectors block) bytes
 may_while allowed start sectors block bytes may = by (is_in start (length sectors) block)
   where
     by : (b : Bool) → May (if b then option_map (λ old. old ++ new_bytes start sectors block ∷ []) (allowed block) else allowed block) bytes
-    by true = may_still (allowed block) (new_bytes start sectors block) bytes may
+    by true = may_old (allowed block) (new_bytes start sectors block) bytes may
     by false = may
 
 -- ---- where the kept disk stands
@@ -456,7 +432,7 @@ module _ {large : Bool} {revision : Revision} {stamp : Stamp} {guid : List ℕ} 
   kept_plugged gone =
       let before = (on_second).stands in
       before.plugged kept before.there
-      (set_other life.cut.unplugged lost kept life.apart (ap (λ (state : MemoryState). slice_index_or state.unplugged kept false) (sym life.is_unplugged) ∙ gone))
+      (set_true_other life.cut.unplugged lost kept life.apart (ap (λ (state : MemoryState). slice_index_or state.unplugged kept false) (sym life.is_unplugged) ∙ gone))
 
   end_member : HasMemberOn group in_end.past life.without_one
   end_member =

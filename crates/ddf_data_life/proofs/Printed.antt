@@ -1,8 +1,8 @@
 -- A read over disks in memory prints what its history promises.
 use Rattle.std.proofs.Common.{◌≡◌, ℕ, List, Some}
+use Rattle.ddf_lemmas.proofs.Lists.{bytes_same}
 use Rattle.ddf_bay.specs.Memory.{disks_of}
 use Rattle.ddf_bay.specs.declared.memory.MemoryBay.{MemoryBay}
-use Rattle.ddf_view.proofs.Tests.{bytes_same}
 use Rattle.ddf_data_array.specs.Allowed.{Allowed}
 use Rattle.ddf_data_calls.specs.Reading.{MayBe, blocks_printed}
 use Rattle.ddf_data_calls.proofs.Printed.{printed_may}

@@ -1,6 +1,7 @@
 -- An import is admitted where both groups stand in histories of their own that know the same disks.
 use Rattle.std.proofs.Common.{◌≡◌, ◌∙◌, ◌⊎◌, ℕ, ◌||◌, Bool, true, false, List, [], length, Option, Some, Ok, ap, sym, subst, inl, inr, refl}
 use Rattle.std.proofs.lemmas.Bool.{false_from_ne_true}
+use Rattle.ddf_lemmas.proofs.Lists.{in_map}
 use Rattle.ddf_bay.specs.Sectors.{Image, IsLeft}
 use Rattle.ddf_bay.specs.State.{BayState}
 use Rattle.ddf_config.specs.declared.seat.Seat.{Seat}
@@ -8,7 +9,6 @@ use Rattle.ddf_config.specs.Configuration.{Configuration}
 use Rattle.ddf_copy.specs.declared.newest_copy.Newest.{Newest}
 use Rattle.ddf_import.specs.Joined.{without_lost}
 use Rattle.ddf_view.specs.View.{View, view_of}
-use Rattle.ddf_rewrite.proofs.Lists.{map_get}
 use Rattle.ddf_history.specs.Groups.{groups, has_current, disk_of}
 use Rattle.ddf_history.specs.Issued.{IsSince, Past, is_away}
 use Rattle.ddf_history.specs.Leaders.{seen}
@@ -49,7 +49,7 @@ module _ (group former : List ℕ) {D : Type 0} (state : BayState D) (left : Lis
   member_at : (slot : ℕ) → is_slot (slots_of other.seats) slot ≡ true → (has_current other.config (theirs.disk slot) ≡ true) × (is_read left slot ≡ true)
   member_at slot joins =
       let at = slot_placed (slots_of other.seats) slot joins in
-      let seat = map_get (λ (one : Seat). one.slot) other.seats at.0 slot at.1 in
+      let seat = in_map (λ (one : Seat). one.slot) other.seats at.0 slot at.1 in
       let copy = claims.seat_has former state left newest long read theirs admitted.same_slots admitted.is_kept admitted.may_read admitted.member (Some former) other is_found own at.0 seat.0 seat.1 in
       let claimed = claims.seats_claimed former state left newest long read theirs admitted.same_slots admitted.is_kept admitted.may_read admitted.member (Some former) other is_found own at.0 seat.0 copy.0 seat.1 copy.1 in
       let current = claims.claimed_is_current former state left newest long read theirs admitted.same_slots admitted.is_kept admitted.may_read admitted.member (Some former) other is_found own seat.0.slot (view_of copy.0) claimed in

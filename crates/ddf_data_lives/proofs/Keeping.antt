@@ -1,10 +1,13 @@
 -- Each call keeps a disk that stands and that it doesn't fail: each configuration that it issues lists the disk as a current member.
-use Rattle.std.proofs.Common.{◌≡◌, ◌∙◌, ℕ, zero, suc, ◌<◌, ◌++◌, ◌||◌, not, ◌&&◌, eqb, Bool, true, false, List, [], ◌∷◌, length, Option, Some, None, Ok, if◌then◌else◌, refl, sym, ap, subst}
+use Rattle.std.proofs.Common.{◌≡◌, ◌∙◌, ℕ, zero, suc, ◌<◌, ◌++◌, not, ◌&&◌, eqb, Bool, true, false, List, [], ◌∷◌, length, Option, Some, None, Ok, if◌then◌else◌, refl, sym, ap, subst}
 use Rattle.std.proofs.lemmas.Bool.{and_parts, false_from_ne_true, false≢true, or_left}
 use Rattle.std.specs.Prelude.{IsTrue, option_to_list, slice_get, slice_index_or}
 use Rattle.std.specs.Map.{lookup}
 use Rattle.std.specs.Option.{option_map_or, option_or}
 use Rattle.std.specs.Str.{bytes_eq}
+use Rattle.ddf_lemmas.proofs.Lists.{in_map}
+use Rattle.ddf_lemmas.proofs.Options.{value_there}
+use Rattle.ddf_lemmas.proofs.Tests.{none_away}
 use Rattle.ddf_bay.specs.Memory.{disks_of}
 use Rattle.ddf_bay.specs.ReadsOnly.{LookFailed}
 use Rattle.ddf_bay.specs.declared.memory.MemoryBay.{MemoryBay}
@@ -19,13 +22,12 @@ use Rattle.ddf_plan.specs.declared.change.Change.TheVariants.{Unmark}
 use Rattle.ddf_plan.specs.Lose.{is_among}
 use Rattle.ddf_plan.specs.Members.{lost_by}
 use Rattle.ddf_plan.specs.Spare.{holds_extent}
-use Rattle.ddf_rewrite.proofs.Lists.{map_get, some_same}
+use Rattle.ddf_rewrite.proofs.Lists.{some_same}
 use Rattle.ddf_history.specs.Groups.{Disk, groups, has_current}
 use Rattle.ddf_history.specs.Issued.{IsSince, leave_out}
 use Rattle.ddf_history.specs.Scenes.{scene_of}
 use Rattle.ddf_history.proofs.Assembling.{read_as}
 use Rattle.ddf_history.proofs.Calls.{claims as members_claimed}
-use Rattle.ddf_history.proofs.Listed.{value_there}
 use Rattle.ddf_history.proofs.Sound.{groups_are_sound}
 use Rattle.ddf_seats.specs.Group.{GroupValue}
 use Rattle.ddf_seats.specs.Leading.{some}
@@ -40,6 +42,7 @@ use Rattle.ddf_history_steps.specs.Steps.{recovery_changes}
 use Rattle.ddf_history_steps.proofs.Begun.{assembled_kept, assembled_since}
 use Rattle.ddf_history_steps.proofs.Claimed as claims
 use Rattle.ddf_history_steps.proofs.Slots.{slot_placed}
+use Rattle.ddf_history_joins.proofs.JoinMembers.{lookup_both}
 use Rattle.ddf_import_command.specs.Import.{import_asked}
 use Rattle.ddf_data_calls.proofs.Recovered.{recovered_listed}
 use Rattle.ddf_history_memory.specs.Histories.{GoesWell}
@@ -58,15 +61,6 @@ use Rattle.ddf_data_lives.specs.Standing.{KeepsDisk, Stands}
 use Rattle.ddf_data_lives.proofs.Sparing.{change_keeps, copyback_keeps, issued_keep, rebuild_keeps, recovered_keep}
 
 -- ---- members that a join keeps
-
-lookup_both : (test : ℕ → Bool) (xs ys : List (ℕ × Member)) → lookup test (xs ++ ys) ≡ option_or (lookup test xs) (lookup test ys)
-lookup_both test [] ys = refl
-lookup_both test (entry ∷ xs) ys = by (test entry.0) (lookup_both test xs ys)
-  where
-    by : (b : Bool) → lookup test (xs ++ ys) ≡ option_or (lookup test xs) (lookup test ys)
-        → (if b then Some entry.1 else lookup test (xs ++ ys)) ≡ option_or (if b then Some entry.1 else lookup test xs) (lookup test ys)
-    by true rest = refl
-    by false rest = rest
 
 module _ (keeps : ℕ → Member → Bool) where
   abbrev keep : ℕ → Member → Option Member
@@ -109,11 +103,6 @@ one_more P [] last all is (suc place) config at = absurd cc
 one_more P (first ∷ xs) last all is zero config at = all 0 config at
 one_more P (first ∷ xs) last all is (suc place) config at = one_more P xs last (λ k one there. all (suc k) one there) is place config at
 
-none_away : (a b : Bool) → a ≡ false → (b ≡ true → ⊥) → (a || b) ≡ false
-none_away true b is never = absurd cc
-none_away false true is never = absurd (never refl)
-none_away false false is never = refl
-
 -- ---- a disk that stands
 
 module _ (group : List ℕ) (kept : ℕ) (disk : Disk) (old : Moment group MemoryBay) (stands : Stands group kept disk old) where
@@ -154,7 +143,7 @@ module _ (group : List ℕ) (kept : ℕ) (disk : Disk) (old : Moment group Memor
     still_current : has_current (config_recovered found) disk ≡ true
     still_current =
         let placed = slot_placed (slots_of found.seats) kept is_seated in
-        let seat = map_get (λ (each : Seat). each.slot) found.seats placed.0 kept placed.1 in
+        let seat = in_map (λ (each : Seat). each.slot) found.seats placed.0 kept placed.1 in
         let listed = recovered_listed group (disks_of old.bay) left newest every_slot read old.past admitted.same_slots admitted.is_kept admitted.may_read admitted.member named found is_found own
         old.floor (by_held group disks_of bays old.past old.floor old.bay stands.data_history.keeps.floored (before_told old.bay exit well told)) placed.0 seat.0 seat.1 in
         sym (ap (has_current (config_recovered found)) stands.same_disk)

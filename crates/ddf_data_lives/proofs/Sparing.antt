@@ -7,7 +7,6 @@ use Rattle.ddf_config.specs.declared.member.Member.{Member}
 use Rattle.ddf_config.specs.declared.extent.Extent.{Extent}
 use Rattle.ddf_config.specs.declared.refusal.Refusal.{Refusal}
 use Rattle.ddf_config.specs.Configuration.{Configuration}
-use Rattle.ddf_config.specs.Entries.{changed_entries}
 use Rattle.ddf_config.specs.Members.{is_current}
 use Rattle.ddf_config.specs.Refusals.{first_refusal}
 use Rattle.ddf_plan.specs.declared.change.Change.{Change}
@@ -31,6 +30,7 @@ use Rattle.ddf_seats.specs.Seated.{levelled}
 use Rattle.ddf_steps.specs.Ready.{steps_from, with_step}
 use Rattle.ddf_steps.specs.Refusing.{step_refusal}
 use Rattle.ddf_steps.specs.Steps.{Step, config_after, step_of}
+use Rattle.ddf_steps.proofs.MembersAfter.{changed_map}
 use Rattle.ddf_recovery.specs.Ready.{readied}
 use Rattle.ddf_recovery.specs.Recovery.{config_lost, config_recovered, disks_recovered, lost_step, mending_step, recovery_of}
 use Rattle.ddf_recovery.proofs.ReadiedSteps.{are_tried, behind, steps_are}
@@ -65,10 +65,6 @@ spared_in config change reference free (entry ∷ members) is = go (spared_in co
         let same : (member_after config change entry.0 entry.1).missing ≡ entry.1.missing = ap (λ (b : Bool). b || entry.1.missing) none in
         rw (here, is_current) (ap (λ (b : Bool). not b) same ∙ rw (here, is_current) at is)
     go later false here = rw (here, is_current) (later (rw (here, is_current) at is))
-
-changed_map : (g : ℕ → Member → Member) (entries : List (ℕ × Member)) → changed_entries (λ k m. Some (g k m)) entries ≡ map (λ (entry : ℕ × Member). (entry.0, g entry.0 entry.1)) entries
-changed_map g [] = refl
-changed_map g (entry ∷ entries) = ap (λ (l : List (ℕ × Member)). (entry.0, g entry.0 entry.1) ∷ l) (changed_map g entries)
 
 -- a disk by its reference isn't among those that a change loses
 abbrev pub IsSpared : Disk → Change → Type 0

@@ -6,6 +6,7 @@ use Rattle.std.specs.List.{All, find}
 use Rattle.std.specs.Option.{option_or}
 use Rattle.std.specs.Prelude.{get_or, nat_lt, not, option_map, slice_get, slice_index}
 use Rattle.std.proofs.lemmas.Option.{get_or_from_slice_get, slice_get_within}
+use Rattle.ddf_lemmas.proofs.Options.{none_from_map, none_of_both}
 use Rattle.ddf_bytes.specs.Choices.{first_of, when}
 use Rattle.ddf_bay.specs.Sectors.{Image}
 use Rattle.ddf_header.specs.declared.reading.Header.{Header}
@@ -22,32 +23,21 @@ use Rattle.ddf_update.specs.Group.{slot_sizes}
 use Rattle.ddf_update.specs.NewLayouts.{least_sectors, rows_of}
 use Rattle.ddf_disk_commands.specs.LabelRefusal.{IsFit, chosen, is_anchored, is_blank, is_small, label_layout, label_refusal, misfit, missing, unfit}
 
-none_of : (one other : Option Refusal) → option_or one other ≡ None → (one ≡ None) × (other ≡ None)
-none_of None other none = (refl, none)
-none_of (Some refusal) other none = absurd cc
-
-no_item : {X : Type 0} (f : X → Refusal) (o : Option X) → option_map f o ≡ None → o ≡ None
-no_item f None none = refl
-no_item f (Some item) none = absurd cc
-
 not_when : (test : Bool) (refusal : Refusal) → when test refusal ≡ None → test ≡ false
 not_when true refusal none = absurd cc
 not_when false refusal none = refl
-
-not_many : (most count : ℕ) → nat_lt most count ≡ false → count ≤ most
-not_many most count few = ltb-false most count few
 
 not_small : (layout : NewLayout) (sizes slots : List ℕ) → find (is_small layout sizes) slots ≡ None → All (λ slot. least_sectors layout ≤ slice_index sizes slot) slots
 not_small layout sizes slots none k d lt = let large = none_is (is_small layout sizes) slots none k d lt in ltb-false (slice_index sizes (get_or slots k d)) (least_sectors layout) large
 
 pub fits : (layout : NewLayout) (sizes slots : List ℕ) (anchored : Option ℕ) → misfit layout sizes anchored slots ≡ None → IsFit layout sizes slots
 fits layout sizes slots anchored none =
-    let blank = none_of (option_map NotBlank anchored) (first_of (option_map (λ slot. Small (least_sectors layout) (slice_index sizes slot)) (find (is_small layout sizes) slots) ∷ when (nat_lt (rows_of layout) (length slots)) (Full Disks) ∷ [])) none in
-    let small = none_of (option_map (λ slot. Small (least_sectors layout) (slice_index sizes slot)) (find (is_small layout sizes) slots)) (first_of (when (nat_lt (rows_of layout) (length slots)) (Full Disks) ∷ [])) blank.1 in
-    let full = none_of (when (nat_lt (rows_of layout) (length slots)) (Full Disks)) None small.1 in
+    let blank = none_of_both (option_map NotBlank anchored) (first_of (option_map (λ slot. Small (least_sectors layout) (slice_index sizes slot)) (find (is_small layout sizes) slots) ∷ when (nat_lt (rows_of layout) (length slots)) (Full Disks) ∷ [])) none in
+    let small = none_of_both (option_map (λ slot. Small (least_sectors layout) (slice_index sizes slot)) (find (is_small layout sizes) slots)) (first_of (when (nat_lt (rows_of layout) (length slots)) (Full Disks) ∷ [])) blank.1 in
+    let full = none_of_both (when (nat_lt (rows_of layout) (length slots)) (Full Disks)) None small.1 in
     record {
-      few = not_many (rows_of layout) (length slots) (not_when (nat_lt (rows_of layout) (length slots)) (Full Disks) full.0);
-      large = not_small layout sizes slots (no_item (λ slot. Small (least_sectors layout) (slice_index sizes slot)) (find (is_small layout sizes) slots) small.0);
+      few = ltb-false (rows_of layout) (length slots) (not_when (nat_lt (rows_of layout) (length slots)) (Full Disks) full.0);
+      large = not_small layout sizes slots (none_from_map (λ slot. Small (least_sectors layout) (slice_index sizes slot)) (find (is_small layout sizes) slots) small.0);
     }
 
 -- ---- what `label` is refused for
@@ -80,13 +70,13 @@ blank_is (Err (anchors.Disk slot)) is = absurd cc
 none_missing : (large : Bool) (sizes : List ℕ) (held : Image) (named : List ℕ) → label_refusal large sizes held named ≡ None → unfit (label_layout large sizes named) sizes held (chosen (length sizes) named) ≡ None
 unfolding label_refusal
 none_missing large sizes held named none =
-    let parts = none_of (option_map NoSlot (missing (length sizes) named)) (option_or (unfit (label_layout large sizes named) sizes held (chosen (length sizes) named)) None) none in
-    (none_of (unfit (label_layout large sizes named) sizes held (chosen (length sizes) named)) None parts.1).0
+    let parts = none_of_both (option_map NoSlot (missing (length sizes) named)) (option_or (unfit (label_layout large sizes named) sizes held (chosen (length sizes) named)) None) none in
+    (none_of_both (unfit (label_layout large sizes named) sizes held (chosen (length sizes) named)) None parts.1).0
 
 none_anchored : (layout : NewLayout) (sizes : List ℕ) (held : Image) (slots : List ℕ) → unfit layout sizes held slots ≡ None → find (is_anchored sizes held) slots ≡ None
 none_anchored layout sizes held slots none =
-    no_item NotBlank (find (is_anchored sizes held) slots)
-    (none_of (option_map NotBlank (find (is_anchored sizes held) slots)) (first_of (option_map (λ slot. Small (least_sectors layout) (slice_index sizes slot)) (find (is_small layout sizes) slots) ∷ when (nat_lt (rows_of layout) (length slots)) (Full Disks) ∷ [])) none).0
+    none_from_map NotBlank (find (is_anchored sizes held) slots)
+    (none_of_both (option_map NotBlank (find (is_anchored sizes held) slots)) (first_of (option_map (λ slot. Small (least_sectors layout) (slice_index sizes slot)) (find (is_small layout sizes) slots) ∷ when (nat_lt (rows_of layout) (length slots)) (Full Disks) ∷ [])) none).0
 
 pub all_blank : (large : Bool) (sizes : List ℕ) (held : Image) (named : List ℕ) → label_refusal large sizes held named ≡ None
     → (place slot : ℕ) → slice_get (chosen (length sizes) named) place ≡ Some slot → anchor_at (slice_index sizes slot) (held slot) ≡ Err Blank

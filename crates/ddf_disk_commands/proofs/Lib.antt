@@ -7,3 +7,4 @@ mod LabelEnds
 mod Labelled
 mod LabelCosts
 mod Quiet
+pub mod Common

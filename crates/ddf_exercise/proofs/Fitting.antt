@@ -1,20 +1,16 @@
 -- The steps of an exercise fit, and are few.
-use Rattle.std.proofs.Common.{◌≡◌, ◌∙◌, ◌&&◌, ℕ, zero, suc, ◌+◌, ◌*◌, ◌%◌, ◌≤◌, Bool, true, false, List, [], ◌∷◌, ◌++◌, length, refl, ap, arith, length-append}
+use Rattle.std.proofs.Common.{◌≡◌, ◌∙◌, ℕ, zero, suc, ◌+◌, ◌*◌, ◌%◌, ◌≤◌, true, List, [], ◌∷◌, ◌++◌, length, refl, ap, arith, length-append}
 use Rattle.std.specs.Prelude.{IsTrue}
 use Rattle.std.specs.List.{list_all}
-use Rattle.std.proofs.lemmas.Bool.{le-leb}
+use Rattle.std.proofs.lemmas.Bool.{le-leb, and_from}
 use Rattle.std.proofs.lemmas.List.Folds.{list_all-append}
 use Rattle.ddf_exercise.specs.Draws.{behind_fill, behind_fills, drawn, first_state, next_fill, next_state}
 use Rattle.ddf_exercise.specs.Steps.{all_steps, first_steps, fits, loss_steps, write_steps}
 use Rattle.ddf_exercise.specs.declared.steps.Step.{Step}
 use Rattle.ddf_exercise.specs.declared.steps.Step.TheVariants.{Scrub, Write}
 
-and_true : (a b : Bool) → a ≡ true → b ≡ true → (a && b) ≡ true
-and_true true b here there = there
-and_true false b here there = here
-
 append_fits : (steps others : List Step) → list_all fits steps ≡ true → list_all fits others ≡ true → list_all fits (steps ++ others) ≡ true
-append_fits steps others here there = list_all-append fits steps others ∙ and_true (list_all fits steps) (list_all fits others) here there
+append_fits steps others here there = list_all-append fits steps others ∙ and_from (list_all fits steps) (list_all fits others) here there
 
 fill_within : (first second : ℕ) → first % 8177 + (1 + second % 16) ≤ 8192
 fill_within first second = omega arith
@@ -26,7 +22,7 @@ fill_fits state =
 
 writes_fit : (rounds state : ℕ) → list_all fits (write_steps rounds state) ≡ true
 writes_fit zero state = refl
-writes_fit (suc rounds) state = and_true (fits (Write (next_fill state))) (list_all fits (write_steps rounds (behind_fill state))) (fill_fits state) (writes_fit rounds (behind_fill state))
+writes_fit (suc rounds) state = and_from (fits (Write (next_fill state))) (list_all fits (write_steps rounds (behind_fill state))) (fill_fits state) (writes_fit rounds (behind_fill state))
 
 pub all_fit : (seed rounds : ℕ) → IsTrue (list_all fits (all_steps seed rounds))
 unfolding all_steps

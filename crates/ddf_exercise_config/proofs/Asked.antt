@@ -1,5 +1,5 @@
 -- Nothing refuses what the commands of an exercise ask of its group.
-use Rattle.std.proofs.Common.{◌≡◌, ◌∙◌, ℕ, ◌+◌, ◌≤◌, Bool, true, false, not, List, [], ◌∷◌, Option, None, Result, Ok, refl, ap, map, ◌++◌, nat_lt, lit≤}
+use Rattle.std.proofs.Common.{◌≡◌, ◌∙◌, ℕ, ◌+◌, ◌≤◌, Bool, true, false, not, List, [], ◌∷◌, Option, None, Result, Ok, refl, ap, map, ◌++◌, nat_lt, lit≤, le-ltb}
 use Rattle.ddf_config.specs.declared.array.Array.{Array}
 use Rattle.ddf_config.specs.declared.element.Position.{Position}
 use Rattle.ddf_config.specs.Configuration.{Configuration}
@@ -10,6 +10,7 @@ use Rattle.ddf_config.specs.declared.refusal.Refusal.{Refusal}
 use Rattle.ddf_config.specs.declared.refusal.Refusal.TheVariants as refusals
 use Rattle.ddf_config.specs.declared.member.SpareUse.TheVariants.{No, Global}
 use Rattle.ddf_config.specs.Shapes.{array_capacity}
+use Rattle.ddf_config.proofs.Common.{pass_more}
 use Rattle.ddf_plan.specs.declared.change.Change.TheVariants as changes
 use Rattle.ddf_words.specs.declared.command.SpareWord.TheVariants as spare_words
 use Rattle.ddf_words.specs.declared.command.Wish.TheVariants as wishes
@@ -33,12 +34,13 @@ use Rattle.ddf_rebuild.specs.Target.{IsTarget}
 use Rattle.ddf_exercise_config.specs.Views.{part, place, places_begun, spare_slot, view_at, view_begun}
 use Rattle.ddf_exercise_config.specs.Words.{creation, word}
 use Rattle.ddf_repair.specs.declared.beginning.Begun.TheVariants.{Fresh}
+use Rattle.ddf_repair.proofs.Begins.{three_pass}
 use Rattle.ddf_write_commands.specs.Planned.{asked_of, lacks_position, unless_refused}
 use Rattle.ddf_write_commands.specs.Resync.{resync_behind, resync_refusals, resync_request}
 use Rattle.ddf_write_commands.specs.Write.{write_behind, write_refusals, write_request}
 use Rattle.ddf_rebuild_command.specs.Asked.{rebuild_asked, rebuild_changes, rebuild_refusals, rebuild_request, rebuild_unless, rows_in}
 use Rattle.ddf_rebuild_command.specs.Notes.{notes, upwards}
-use Rattle.ddf_exercise_config.proofs.Bools.{not_past, pass_five_more, pass_more, pass_three}
+use Rattle.ddf_exercise_config.proofs.Bools.{pass_five_more}
 use Rattle.ddf_exercise_config.proofs.Seen as seen
 use Rattle.ddf_exercise_config.proofs.Spares as spares
 use Rattle.ddf_exercise_config.proofs.Used as used
@@ -62,7 +64,7 @@ module _ (group : List ℕ) (disks : Disks) (sequence : ℕ) (stamp : Stamp) whe
 in_range : (p q r : Position) (state init start count : ℕ) → start + count ≤ 8192
     → refuse_if (is_out_of_range (array (p ∷ q ∷ r ∷ []) state init) start count) (refusals.Range (array_capacity (array (p ∷ q ∷ r ∷ []) state init))) ≡ None
 in_range p q r state init start count within =
-    ap (λ (most : ℕ). refuse_if (nat_lt most (start + count)) (refusals.Range most)) (seen.array_holds p q r state init) ∙ ap (λ (b : Bool). refuse_if b (refusals.Range 8192)) (not_past 8192 (start + count) within)
+    ap (λ (most : ℕ). refuse_if (nat_lt most (start + count)) (refusals.Range most)) (seen.array_holds p q r state init) ∙ ap (λ (b : Bool). refuse_if b (refusals.Range 8192)) (le-ltb 8192 (start + count) within)
 
 module _ (disks : Disks) (state init start count : ℕ) (within : start + count ≤ 8192) where
   pub turn_range : (turn : Turn) → refuse_if (is_out_of_range (array (positions_at disks turn) state init) start count) (refusals.Range (array_capacity (array (positions_at disks turn) state init))) ≡ None
@@ -140,7 +142,7 @@ module _ (group : List ℕ) (disks : Disks) (apart : AreApart disks) (guid : Lis
         (pass_five_more (useless config (seats_at disks turn) guid one) (refuse_if (is_out_of_range one start count) (refusals.Range (array_capacity one))) (bad_blocks (seats_at disks turn) one) None None
         (refuse_if (not (is_array_within (seats_at disks turn) one)) refusals.Lost ∷ None ∷ refuse_if (lacks_position (view_of config guid (seats_at disks turn))) refusals.Degraded ∷ [])
         (used.turn_useful group disks apart guid 0 2 sequence turn) (turn_range disks 0 2 start count within turn) (used.none_is_bad disks turn one) refl refl
-        (pass_three (refuse_if (not (is_array_within (seats_at disks turn) one)) refusals.Lost) None (refuse_if (lacks_position (view_of config guid (seats_at disks turn))) refusals.Degraded) level_is refl
+        (three_pass (refuse_if (not (is_array_within (seats_at disks turn) one)) refusals.Lost) None (refuse_if (lacks_position (view_of config guid (seats_at disks turn))) refusals.Degraded) level_is refl
         (ap (λ (v : Result Volume Refusal). refuse_if (lacks_position v) refusals.Degraded) (used.turn_view group disks apart guid 0 2 sequence turn) ∙ ap (λ (b : Bool). refuse_if b refusals.Degraded) (healthy turn false))))
 
   -- ---- a resync

@@ -24,12 +24,14 @@ use Rattle.ddf_config.specs.declared.member.SpareUse.TheVariants.{No, Global}
 use Rattle.ddf_config.specs.Room.{least_start_of}
 use Rattle.ddf_config.proofs.Starts.{find_in_range}
 use Rattle.ddf_config.specs.Unusable.{passes_floor}
+use Rattle.ddf_config.proofs.Common.{same_self}
 use Rattle.ddf_plan.specs.declared.change.Change.TheVariants.{Begin, Create, Finish, Mark, Spare, Unmark}
 use Rattle.ddf_plan.specs.CreateRefusal.{is_spare_disk}
 use Rattle.ddf_plan.specs.Floors.{lacks_extent}
+use Rattle.ddf_repair.proofs.Begins.{three_pass}
 use Rattle.ddf_exercise_config.specs.Disks.{Disk, room}
 use Rattle.ddf_exercise_config.specs.Stages.{array, group_with, member, position}
-use Rattle.ddf_exercise_config.proofs.Bools.{guid_is, pass_six, pass_three}
+use Rattle.ddf_exercise_config.proofs.Bools.{pass_six}
 
 -- the first sector of a disk that has no extent is free
 at_zero : (k : ℕ) → k ≡ 0 → is_free [] room 4096 (k * 8) ≡ true
@@ -45,11 +47,11 @@ module _ (group : List ℕ) (sequence : ℕ) (table : List (ℕ × Member)) (gui
 
   pub mark_allowed : causes (Some 16) config (Mark guid) seats ≡ None
   unfolding causes
-  mark_allowed = simp guid_is
+  mark_allowed = simp same_self
 
   pub unmark_allowed : (given : ℕ) → causes (Some 16) config (Unmark guid given) seats ≡ None
   unfolding causes
-  unmark_allowed given = simp guid_is
+  unmark_allowed given = simp same_self
 
   holds_none : (reference : ℕ) → eqb p.reference reference ≡ false → eqb q.reference reference ≡ false → eqb r.reference reference ≡ false → holds_extent config reference ≡ false
   holds_none reference apart_p apart_q apart_r = simp (apart_p, apart_q, apart_r)
@@ -61,24 +63,24 @@ module _ (group : List ℕ) (sequence : ℕ) (table : List (ℕ × Member)) (gui
       → causes (Some 16) config (Spare reference Global) seats ≡ None
   unfolding causes
   spare_allowed reference current apart_p apart_q apart_r =
-      pass_three (not_current config seats (reference ∷ [])) None (refuse_if (holds_extent config reference) (InUse (slot_of seats reference))) (current_one reference current) refl
+      three_pass (not_current config seats (reference ∷ [])) None (refuse_if (holds_extent config reference) (InUse (slot_of seats reference))) (current_one reference current) refl
       (ap (λ b. refuse_if b (InUse (slot_of seats reference))) (holds_none reference apart_p apart_q apart_r))
 
   pub second_begins : (reference start : ℕ) → is_current table reference ≡ true → causes (Some 16) config (Begin guid 0 1 reference start) seats ≡ None
   unfolding causes
-  second_begins reference start current = simp (has_position, lost_holder, reference_at, guid_is, current)
+  second_begins reference start current = simp (has_position, lost_holder, reference_at, same_self, current)
 
   pub third_begins : (reference start : ℕ) → is_current table reference ≡ true → causes (Some 16) config (Begin guid 0 2 reference start) seats ≡ None
   unfolding causes
-  third_begins reference start current = simp (has_position, lost_holder, reference_at, guid_is, current)
+  third_begins reference start current = simp (has_position, lost_holder, reference_at, same_self, current)
 
   pub second_finishes : is_current table q.reference ≡ true → causes (Some 16) config (Finish guid 0 1) seats ≡ None
   unfolding causes
-  second_finishes current = simp (has_position, lost_holder, reference_at, guid_is, current)
+  second_finishes current = simp (has_position, lost_holder, reference_at, same_self, current)
 
   pub third_finishes : is_current table r.reference ≡ true → causes (Some 16) config (Finish guid 0 2) seats ≡ None
   unfolding causes
-  third_finishes current = simp (has_position, lost_holder, reference_at, guid_is, current)
+  third_finishes current = simp (has_position, lost_holder, reference_at, same_self, current)
 
 -- ---- a new array
 

@@ -1,5 +1,5 @@
 -- What each change of an exercise makes of its group.
-use Rattle.std.proofs.Common.{if◌then◌else◌, ◌≡◌, ◌∙◌, ℕ, ◌+◌, ◌≤◌, Bool, true, false, not, List, [], ◌∷◌, Some, None, eqb, refl, ap, arith}
+use Rattle.std.proofs.Common.{if◌then◌else◌, ◌≡◌, ◌∙◌, ℕ, ◌+◌, ◌≤◌, Bool, true, false, not, List, [], ◌∷◌, Some, None, eqb, refl, ap}
 use Rattle.ddf_config.specs.declared.array.Array.{Array}
 use Rattle.ddf_config.specs.declared.element.Position.{Position}
 use Rattle.ddf_config.specs.declared.member.Member.{Member}
@@ -13,8 +13,10 @@ use Rattle.ddf_plan.specs.Create.{created as laid}
 use Rattle.ddf_plan.specs.Floors.{extents_refusal}
 use Rattle.ddf_plan.specs.Same.{is_step, same_tables}
 use Rattle.std.specs.Cmp.Lexicographic.{pointwise}
+use Rattle.ddf_lemmas.proofs.Lists.{bytes_same}
 use Rattle.ddf_config.specs.Members.{is_current}
 use Rattle.ddf_config.specs.declared.member.SpareUse.TheVariants.{No, Global}
+use Rattle.ddf_config.proofs.Common.{same_self}
 use Rattle.ddf_plan.specs.declared.change.Change.{Change}
 use Rattle.ddf_plan.specs.declared.change.Change.TheVariants.{Begin, Create, Finish, Lose, Mark, Spare, Unmark}
 use Rattle.ddf_plan.specs.Changes.{changed_at}
@@ -25,12 +27,13 @@ use Rattle.ddf_seats.specs.Group.{GroupValue}
 use Rattle.ddf_recovery.specs.Recovery.{config_recovered}
 use Rattle.ddf_seats.specs.Leading.{some}
 use Rattle.ddf_steps.specs.Steps.{config_after, raised}
+use Rattle.ddf_steps.proofs.StepConfig.{as_raised}
 use Rattle.ddf_exercise_config.specs.Makes.{Makes}
 use Rattle.ddf_exercise_config.specs.Stages.{array, begun, created, founded, group_with, lost, member, members, position, positions_at, positions_begun, positions_lost, lost_disk, lost_position, spare_disk, resynced, seats_at, whole, with_spare, written_on}
 use Rattle.ddf_exercise_config.specs.Turns.{Loss, Turn, turn_before, turn_behind}
 use Rattle.ddf_exercise_config.specs.Turns.Loss.{OfSecond, OfThird}
 use Rattle.ddf_exercise_config.specs.Turns.Turn.{Closing, Middle, Opening}
-use Rattle.ddf_exercise_config.proofs.Bools.{bytes_are, first_differs, guid_is, same, second_differs}
+use Rattle.ddf_exercise_config.proofs.Bools.{first_differs, same, second_differs}
 use Rattle.ddf_exercise_config.proofs.Causes as allowed
 use Rattle.ddf_exercise_config.proofs.Levels.{with_low}
 use Rattle.ddf_exercise_config.proofs.Steps as steps
@@ -63,10 +66,7 @@ other_array : (group guid : List ℕ) (table : List (ℕ × Member)) (positions 
     → not (same_tables (group_with group old table guid (array positions state init)) (group_with group next table guid (array after state_next init_next))) ≡ true
 unfolding same_tables
 other_array group guid table positions after state state_next init init_next old next apart =
-    second_differs (pointwise same_member table table) (pointwise same_array ((guid, array positions state init) ∷ []) ((guid, array after state_next init_next) ∷ [])) (simp (bytes_are, apart))
-
-raised_is : (sequence count : ℕ) → sequence + count ≤ greatest_sequence → raised sequence count ≡ sequence + count
-raised_is sequence count within = omega (arith, within)
+    second_differs (pointwise same_member table table) (pointwise same_array ((guid, array positions state init) ∷ []) ((guid, array after state_next init_next) ∷ [])) (simp (bytes_same, apart))
 
 -- without a loss the configuration stays
 pub nothing_lost : (found : GroupValue) → found.absent ≡ [] → config_recovered found ≡ found.config
@@ -75,7 +75,7 @@ nothing_lost found none = ap (λ (references : List ℕ). if some references the
 
 module _ (seats : List Seat) (config : Configuration) (change : Change) (next : ℕ → Configuration) (is : (number : ℕ) → changed_at config change number ≡ next number) where
   pub behind : config.sequence + steps_of change ≤ greatest_sequence → config_after config change ≡ next (config.sequence + steps_of change)
-  behind within = is (raised config.sequence (steps_of change)) ∙ ap next (raised_is config.sequence (steps_of change) within)
+  behind within = is (raised config.sequence (steps_of change)) ∙ ap next (as_raised config.sequence (steps_of change) within)
 
   pub step_is : (b : Bool) → not (same_tables config (next (config.sequence + steps_of change))) ≡ b → is_step config change ≡ b
   step_is b e = ap (λ (c : Configuration). not (same_tables config c)) (is (config.sequence + steps_of change)) ∙ e
@@ -152,7 +152,7 @@ module _ (group : List ℕ) (disks : Disks) (apart : AreApart disks) (guid : Lis
         (allowed.spare_allowed group sequence (members disks false false No No) guid (position disks.first true) (position disks.second true) (position disks.third true) 0 2 (seats_at disks Opening) disks.fourth.reference
         (four_are_current false false No No) apart.first_fourth apart.second_fourth apart.third_fourth)
         (no_room (resynced group disks guid sequence) (Spare disks.fourth.reference Global) (seats_at disks Opening) (seats_at disks Opening) refl)
-        (other_members group guid (members disks false false No No) (members disks false false Global No) (array (positions_at disks Opening) 0 2) (array (positions_at disks Opening) 0 2) sequence (sequence + 1) (simp (same, bytes_are)))
+        (other_members group guid (members disks false false No No) (members disks false false Global No) (array (positions_at disks Opening) 0 2) (array (positions_at disks Opening) 0 2) sequence (sequence + 1) (simp (same, bytes_same)))
       where
         spares : (number : ℕ) → changed_at (resynced group disks guid sequence) (Spare disks.fourth.reference Global) number ≡ with_spare group disks guid number
         spares number =
@@ -168,7 +168,7 @@ module _ (group : List ℕ) (disks : Disks) (apart : AreApart disks) (guid : Lis
         (allowed.spare_allowed group sequence (members disks false false Global No) guid (position disks.first true) (position disks.second true) (position disks.third true) 0 2 (seats_at disks Opening) disks.fifth.reference
         (five_are_current false false Global No) apart.first_fifth apart.second_fifth apart.third_fifth)
         (no_room (with_spare group disks guid sequence) (Spare disks.fifth.reference Global) (seats_at disks Opening) (seats_at disks Opening) refl)
-        (other_members group guid (members disks false false Global No) (members disks false false Global Global) (array (positions_at disks Opening) 0 2) (array (positions_at disks Opening) 0 2) sequence (sequence + 1) (simp (same, bytes_are)))
+        (other_members group guid (members disks false false Global No) (members disks false false Global Global) (array (positions_at disks Opening) 0 2) (array (positions_at disks Opening) 0 2) sequence (sequence + 1) (simp (same, bytes_same)))
       where
         spares : (number : ℕ) → changed_at (with_spare group disks guid sequence) (Spare disks.fifth.reference Global) number ≡ whole group disks guid Opening number
         spares number =
@@ -215,15 +215,15 @@ module _ (group : List ℕ) (disks : Disks) (apart : AreApart disks) (guid : Lis
 
     may_set : (turn : Turn) → causes (Some 16) (whole group disks guid turn sequence) (Mark guid) (seats_at disks turn) ≡ None
     unfolding causes
-    may_set Opening = simp guid_is
-    may_set Middle = simp guid_is
-    may_set Closing = simp guid_is
+    may_set Opening = simp same_self
+    may_set Middle = simp same_self
+    may_set Closing = simp same_self
 
     may_clear : (turn : Turn) → causes (Some 16) (written_on group disks guid turn sequence) (Unmark guid 2) (seats_at disks turn) ≡ None
     unfolding causes
-    may_clear Opening = simp guid_is
-    may_clear Middle = simp guid_is
-    may_clear Closing = simp guid_is
+    may_clear Opening = simp same_self
+    may_clear Middle = simp same_self
+    may_clear Closing = simp same_self
 
     pub marking : (turn : Turn) → sequence + 1 ≤ greatest_sequence → Makes (seats_at disks turn) (whole group disks guid turn sequence) (Mark guid) (written_on group disks guid turn (sequence + 1))
     marking turn within =
@@ -318,9 +318,9 @@ module _ (group : List ℕ) (disks : Disks) (apart : AreApart disks) (guid : Lis
 
     begin_differs : (loss : Loss) (next : ℕ) → not (same_tables (lost group disks guid loss sequence) (begun group disks guid loss next)) ≡ true
     begin_differs OfSecond next =
-        other_members group guid (members disks true false Global Global) (members disks true false No Global) (array (positions_lost disks OfSecond) 1 2) (array (positions_begun disks OfSecond) 1 2) sequence next (simp (same, bytes_are))
+        other_members group guid (members disks true false Global Global) (members disks true false No Global) (array (positions_lost disks OfSecond) 1 2) (array (positions_begun disks OfSecond) 1 2) sequence next (simp (same, bytes_same))
     begin_differs OfThird next =
-        other_members group guid (members disks true true No Global) (members disks true true No No) (array (positions_lost disks OfThird) 1 2) (array (positions_begun disks OfThird) 1 2) sequence next (simp (same, bytes_are))
+        other_members group guid (members disks true true No Global) (members disks true true No No) (array (positions_lost disks OfThird) 1 2) (array (positions_begun disks OfThird) 1 2) sequence next (simp (same, bytes_same))
 
     finish_differs : (loss : Loss) (next : ℕ) → not (same_tables (begun group disks guid loss sequence) (whole group disks guid (turn_behind loss) next)) ≡ true
     finish_differs OfSecond next = other_array group guid (members disks true false No Global) (positions_begun disks OfSecond) (positions_at disks Middle) 1 0 2 2 sequence next refl

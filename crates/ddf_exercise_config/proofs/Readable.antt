@@ -10,6 +10,7 @@ use Rattle.ddf_config.specs.Members.{is_current}
 use Rattle.std.proofs.lemmas.Bool.{false≢true}
 use Rattle.std.specs.Prelude.{◌==◌}
 use Rattle.std.specs.List.{IsDistinct}
+use Rattle.ddf_lemmas.proofs.Lists.{bytes_same}
 use Rattle.ddf_config.specs.declared.member.SpareUse.TheVariants as uses
 use Rattle.ddf_history.specs.Groups.{has_current}
 use Rattle.ddf_rewrite.specs.Elements.{is_spare_for, no_reference}
@@ -22,7 +23,7 @@ use Rattle.ddf_exercise_config.specs.Turns.{Loss, Turn, turn_behind}
 use Rattle.ddf_exercise_config.specs.Turns.Loss.{OfSecond, OfThird}
 use Rattle.ddf_exercise_config.specs.Turns.Turn.{Closing, Middle, Opening}
 use Rattle.ddf_exercise_config.specs.Writable.{AreCurrent, IsWritable}
-use Rattle.ddf_exercise_config.proofs.Bools.{bytes_are, same}
+use Rattle.ddf_exercise_config.proofs.Bools.{same}
 use Rattle.ddf_exercise_config.proofs.Tables as tables
 
 module _ (group : List ℕ) (sequence : ℕ) (table : List (ℕ × Member)) (guid : List ℕ) (x y z : Disk) (sx sy sz : Bool) (state init : ℕ) where
@@ -121,19 +122,19 @@ module _ (disks : Disks) (apart : AreApart disks) (sm tm : Bool) (fu hu : SpareU
     over = record { group = group; sequence = sequence; members = table_of; arrays = arrays }
 
     pub first_current : has_current over disks.first ≡ true
-    first_current = simp (same, bytes_are)
+    first_current = simp (same, bytes_same)
 
     pub second_current : sm ≡ false → has_current over disks.second ≡ true
-    second_current e = simp (same, bytes_are, apart.first_second, e)
+    second_current e = simp (same, bytes_same, apart.first_second, e)
 
     pub third_current : tm ≡ false → has_current over disks.third ≡ true
-    third_current e = simp (same, bytes_are, apart.first_third, apart.second_third, e)
+    third_current e = simp (same, bytes_same, apart.first_third, apart.second_third, e)
 
     pub fourth_current : has_current over disks.fourth ≡ true
-    fourth_current = simp (same, bytes_are, apart.first_fourth, apart.second_fourth, apart.third_fourth)
+    fourth_current = simp (same, bytes_same, apart.first_fourth, apart.second_fourth, apart.third_fourth)
 
     pub fifth_current : has_current over disks.fifth ≡ true
-    fifth_current = simp (same, bytes_are, apart.first_fifth, apart.second_fifth, apart.third_fifth, apart.fourth_fifth)
+    fifth_current = simp (same, bytes_same, apart.first_fifth, apart.second_fifth, apart.third_fifth, apart.fourth_fifth)
 
   pub first_stays : is_current table_of disks.first.reference ≡ true
   first_stays = simp (is_current, tables.at_first disks apart sm tm fu hu)

@@ -20,6 +20,7 @@ use Rattle.ddf_secondary.proofs.Blocks.{length-blocks}
 use Rattle.ddf_secondary.proofs.TierFacts.{single_spots}
 use Rattle.ddf_config.specs.Shapes.{array_capacity, array_tiers, shape_size}
 use Rattle.ddf_config.specs.Unusable.{passes_floor}
+use Rattle.ddf_config.proofs.Common.{same_self}
 use Rattle.ddf_array.specs.declared.place.Place.{Place}
 use Rattle.ddf_array.specs.Places.{Ends}
 use Rattle.ddf_array.specs.Viewing.{seat_slot, view_of}
@@ -28,7 +29,6 @@ use Rattle.ddf_array.proofs.Parts.{is_view}
 use Rattle.ddf_exercise_config.specs.Disks.{Disk}
 use Rattle.ddf_exercise_config.specs.Stages.{array, group_with, position}
 use Rattle.ddf_exercise_config.specs.Views.{part, place, shape, tiers, volume_on}
-use Rattle.ddf_exercise_config.proofs.Bools.{guid_is}
 
 -- ---- how much it holds
 
@@ -103,4 +103,4 @@ module _ (group : List ℕ) (sequence : ℕ) (table : List (ℕ × Member)) (gui
 
     pub view : (i j k : ℕ) → seat_slot seats (extent 4096 (position x sx)) ≡ Some i → seat_slot seats (extent 4096 (position y sy)) ≡ Some j → seat_slot seats (extent 4096 (position z sz)) ≡ Some k
         → view_of (group_with group sequence table guid one) guid seats ≡ Ok (volume_on (is_marked one) (place i sx ∷ place j sy ∷ place k sz ∷ []))
-    view i j k on_x on_y on_z = simp (guid_is, usable, on_x, on_y, on_z)
+    view i j k on_x on_y on_z = simp (same_self, usable, on_x, on_y, on_z)

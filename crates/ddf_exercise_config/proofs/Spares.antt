@@ -15,6 +15,7 @@ use Rattle.std.specs.Option.{option_and_then}
 use Rattle.ddf_config.specs.Members.{is_current}
 use Rattle.ddf_config.specs.declared.member.SpareUse.TheVariants.{No, Global}
 use Rattle.ddf_config.specs.Room.{least_start_of}
+use Rattle.ddf_config.proofs.Common.{same_self}
 use Rattle.ddf_plan.specs.declared.change.Change.TheVariants.{Begin}
 use Rattle.ddf_plan.specs.Lose.{is_among}
 use Rattle.ddf_repair.specs.declared.beginning.Begun.TheVariants.{Again, Fresh, Nothing}
@@ -28,7 +29,7 @@ use Rattle.ddf_exercise_config.specs.Stages.{array, element, group_with, lost, l
 use Rattle.ddf_exercise_config.specs.Turns.{Loss, turn_behind}
 use Rattle.ddf_exercise_config.specs.Turns.Loss.{OfSecond, OfThird}
 use Rattle.ddf_exercise_config.specs.Turns.Turn.{Closing, Middle}
-use Rattle.ddf_exercise_config.proofs.Bools.{guid_is, same}
+use Rattle.ddf_exercise_config.proofs.Bools.{same}
 use Rattle.ddf_exercise_config.proofs.Causes.{begins_at_0}
 use Rattle.ddf_exercise_config.proofs.Tables as tables
 
@@ -63,7 +64,7 @@ module _ (group guid : List ℕ) (sequence : ℕ) (table : List (ℕ × Member))
   config = group_with group sequence table guid one
 
   is_there : lookup (same_guid guid) config.arrays ≡ Some one
-  is_there = simp guid_is
+  is_there = simp same_self
 
   pub begins_on_spare : first_out one ≡ Some (out_at 1 0 (element (p ∷ q ∷ r ∷ [])) (number, out)) → is_current table out.reference ≡ false → spares_for guid seats (p.reference ∷ q.reference ∷ r.reference ∷ []) table ≡ reference ∷ others
       → first_extent table (extents ((guid, one) ∷ [])) seats 8 4096 (reference ∷ others) ≡ Some (record { reference = reference; start = 0; blocks = 4096 })

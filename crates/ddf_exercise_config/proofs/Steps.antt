@@ -12,7 +12,9 @@ use Rattle.ddf_plan.specs.Same.{same_tables}
 use Rattle.ddf_plan.specs.Standing.{is_revertible, is_revertible_spare, takes_revertible}
 use Rattle.std.specs.Cmp.Lexicographic.{pointwise}
 use Rattle.std.specs.Map.{lookup}
+use Rattle.ddf_lemmas.proofs.Lists.{bytes_same}
 use Rattle.ddf_config.specs.declared.member.SpareUse.TheVariants.{No, Global}
+use Rattle.ddf_config.proofs.Common.{same_self}
 use Rattle.ddf_plan.specs.declared.change.Change.{Change}
 use Rattle.ddf_plan.specs.declared.change.Change.TheVariants.{Begin, Finish, Lose, Mark, Spare, Unmark}
 use Rattle.ddf_plan.specs.Changes.{changed_at}
@@ -23,7 +25,7 @@ use Rattle.ddf_exercise_config.specs.Disks.{AreApart, Disk, Disks}
 use Rattle.ddf_exercise_config.specs.Stages.{array, group_with, members, position}
 use Rattle.ddf_plan.specs.Arrays.{array_after, arrays_added, is_dropped}
 use Rattle.ddf_plan.specs.Same.{same_use}
-use Rattle.ddf_exercise_config.proofs.Bools.{bytes_are, flag_is, guid_is, none_either, same, second_differs}
+use Rattle.ddf_exercise_config.proofs.Bools.{flag_is, none_either, same, second_differs}
 use Rattle.ddf_exercise_config.proofs.Levels.{with_low}
 use Rattle.ddf_exercise_config.proofs.Tables as tables
 
@@ -46,29 +48,29 @@ module _ (group guid : List ℕ) (disks : Disks) (sm tm : Bool) (fu hu : SpareUs
     pub set : Served 16 init → low_state table (arr 16 init) ≡ 0 → changed_at (at sequence 0 init) (Mark guid) next ≡ at next 16 init
     set served low =
         ap (λ (arrays : List (List ℕ × Array)). record { group = group; sequence = next; members = table; arrays = arrays })
-        (simp guid_is (with_low table guid (position x sx ∷ position y sy ∷ position z sz ∷ []) 16 init 0 served refl low))
+        (simp same_self (with_low table guid (position x sx ∷ position y sy ∷ position z sz ∷ []) 16 init 0 served refl low))
 
     pub set_again : Served 16 init → low_state table (arr 16 init) ≡ 0 → changed_at (at sequence 16 init) (Mark guid) next ≡ at next 16 init
     set_again served low =
         ap (λ (arrays : List (List ℕ × Array)). record { group = group; sequence = next; members = table; arrays = arrays })
-        (simp guid_is (with_low table guid (position x sx ∷ position y sy ∷ position z sz ∷ []) 16 init 0 served refl low))
+        (simp same_self (with_low table guid (position x sx ∷ position y sy ∷ position z sz ∷ []) 16 init 0 served refl low))
 
     pub cleared : (given : ℕ) → Served 0 (init / 4 * 4 + given % 4) → low_state table (arr 0 (init / 4 * 4 + given % 4)) ≡ 0
         → changed_at (at sequence 16 init) (Unmark guid given) next ≡ at next 0 (init / 4 * 4 + given % 4)
     cleared given served low =
         ap (λ (arrays : List (List ℕ × Array)). record { group = group; sequence = next; members = table; arrays = arrays })
-        (simp guid_is (with_low table guid (position x sx ∷ position y sy ∷ position z sz ∷ []) 0 (init / 4 * 4 + given % 4) 0 served refl low))
+        (simp same_self (with_low table guid (position x sx ∷ position y sy ∷ position z sz ∷ []) 0 (init / 4 * 4 + given % 4) 0 served refl low))
 
   -- a state that is another one
   pub other_state : (sequence next state state_next init init_next : ℕ) → eqb state state_next ≡ false → not (same_tables (at sequence state init) (at next state_next init_next)) ≡ true
   unfolding same_tables
   other_state sequence next state state_next init init_next apart =
-      second_differs (pointwise same_member table table) (pointwise same_array ((guid, arr state init) ∷ []) ((guid, arr state_next init_next) ∷ [])) (simp (bytes_are, apart))
+      second_differs (pointwise same_member table table) (pointwise same_array ((guid, arr state init) ∷ []) ((guid, arr state_next init_next) ∷ [])) (simp (bytes_same, apart))
 
   -- all as it was
   pub no_other : (sequence next state init : ℕ) → same_use fu fu ≡ true → same_use hu hu ≡ true → not (same_tables (at sequence state init) (at next state init)) ≡ false
   unfolding same_tables
-  no_other sequence next state init fourth fifth = simp (same, bytes_are, flag_is, fourth, fifth)
+  no_other sequence next state init fourth fifth = simp (same, bytes_same, flag_is, fourth, fifth)
 
 -- ---- members
 
@@ -121,13 +123,13 @@ module _ (guid : List ℕ) (table : List (ℕ × Member)) (x y z : Disk) (state 
   loses_third xz yz = simp (lost_position, same, xz, yz, none_either)
 
   pub begins_second : (spare : Disk) → array_after false table (Begin guid 0 1 spare.reference 0) guid (array (position x true ∷ position y false ∷ position z true ∷ []) state init) ≡ array (position x true ∷ position spare false ∷ position z true ∷ []) state init
-  begins_second spare = simp guid_is
+  begins_second spare = simp same_self
 
   pub begins_third : (spare : Disk) → array_after false table (Begin guid 0 2 spare.reference 0) guid (array (position x true ∷ position y true ∷ position z false ∷ []) state init) ≡ array (position x true ∷ position y true ∷ position spare false ∷ []) state init
-  begins_third spare = simp guid_is
+  begins_third spare = simp same_self
 
   pub finishes_second : array_after false table (Finish guid 0 1) guid (array (position x true ∷ position y false ∷ position z true ∷ []) state init) ≡ array (position x true ∷ position y true ∷ position z true ∷ []) state init
-  finishes_second = simp guid_is
+  finishes_second = simp same_self
 
   pub finishes_third : array_after false table (Finish guid 0 2) guid (array (position x true ∷ position y true ∷ position z false ∷ []) state init) ≡ array (position x true ∷ position y true ∷ position z true ∷ []) state init
-  finishes_third = simp guid_is
+  finishes_third = simp same_self

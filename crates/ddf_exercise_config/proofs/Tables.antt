@@ -1,6 +1,7 @@
 -- The members of an exercise and their seats, looked up.
 use Rattle.std.proofs.Common.{◌≡◌, ℕ, ◌+◌, Bool, true, false, List, Option, Some, None, nat_eq, eqb, refl, if◌then◌else◌, nat_le, nat_lt, arith}
 use Rattle.std.specs.Map.{lookup}
+use Rattle.ddf_lemmas.proofs.Tests.{eqb_false_turned}
 use Rattle.ddf_config.specs.declared.extent.Extent.{Extent}
 use Rattle.ddf_config.specs.declared.member.SpareUse.{SpareUse}
 use Rattle.ddf_config.specs.declared.seat.Seat.{Seat}
@@ -12,38 +13,38 @@ use Rattle.ddf_exercise_config.specs.Disks.{AreApart, Disks, room}
 use Rattle.ddf_exercise_config.specs.Stages.{member, members, position, seats_at}
 use Rattle.ddf_config.specs.declared.member.SpareUse.TheVariants.{No}
 use Rattle.ddf_exercise_config.specs.Turns.Turn.{Closing, Middle, Opening}
-use Rattle.ddf_exercise_config.proofs.Bools.{flip, same}
+use Rattle.ddf_exercise_config.proofs.Bools.{same}
 
 module _ (disks : Disks) (apart : AreApart disks) where
   pub second_first : eqb disks.second.reference disks.first.reference ≡ false
-  second_first = flip _ _ apart.first_second
+  second_first = eqb_false_turned _ _ apart.first_second
 
   pub third_first : eqb disks.third.reference disks.first.reference ≡ false
-  third_first = flip _ _ apart.first_third
+  third_first = eqb_false_turned _ _ apart.first_third
 
   pub fourth_first : eqb disks.fourth.reference disks.first.reference ≡ false
-  fourth_first = flip _ _ apart.first_fourth
+  fourth_first = eqb_false_turned _ _ apart.first_fourth
 
   pub fifth_first : eqb disks.fifth.reference disks.first.reference ≡ false
-  fifth_first = flip _ _ apart.first_fifth
+  fifth_first = eqb_false_turned _ _ apart.first_fifth
 
   pub third_second : eqb disks.third.reference disks.second.reference ≡ false
-  third_second = flip _ _ apart.second_third
+  third_second = eqb_false_turned _ _ apart.second_third
 
   pub fourth_second : eqb disks.fourth.reference disks.second.reference ≡ false
-  fourth_second = flip _ _ apart.second_fourth
+  fourth_second = eqb_false_turned _ _ apart.second_fourth
 
   pub fifth_second : eqb disks.fifth.reference disks.second.reference ≡ false
-  fifth_second = flip _ _ apart.second_fifth
+  fifth_second = eqb_false_turned _ _ apart.second_fifth
 
   pub fourth_third : eqb disks.fourth.reference disks.third.reference ≡ false
-  fourth_third = flip _ _ apart.third_fourth
+  fourth_third = eqb_false_turned _ _ apart.third_fourth
 
   pub fifth_third : eqb disks.fifth.reference disks.third.reference ≡ false
-  fifth_third = flip _ _ apart.third_fifth
+  fifth_third = eqb_false_turned _ _ apart.third_fifth
 
   pub fifth_fourth : eqb disks.fifth.reference disks.fourth.reference ≡ false
-  fifth_fourth = flip _ _ apart.fourth_fifth
+  fifth_fourth = eqb_false_turned _ _ apart.fourth_fifth
 
   module _ (sm tm : Bool) (fu hu : SpareUse) where
     pub at_first : lookup (nat_eq disks.first.reference) (members disks sm tm fu hu) ≡ Some (member disks.first false No).1

@@ -1,5 +1,6 @@
 -- The array of an exercise may be used, and is seen so.
-use Rattle.std.proofs.Common.{◌≡◌, ◌∙◌, ℕ, Bool, true, false, List, [], ◌∷◌, Some, None, Ok, eqb, refl, ap, sym, ◌⊎◌, inl, inr, ⊎_elim, zero, suc, slice_get, arith}
+use Rattle.std.proofs.Common.{◌≡◌, ◌∙◌, ℕ, Bool, true, false, List, [], ◌∷◌, Some, None, Ok, refl, ap, sym, ◌⊎◌, inl, inr, ⊎_elim, zero, suc, slice_get}
+use Rattle.std.proofs.lemmas.Bool.{eqb-false}
 use Rattle.ddf_config.specs.declared.array.Array.{Array}
 use Rattle.ddf_config.specs.declared.element.Position.{Position}
 use Rattle.ddf_config.specs.declared.member.Member.{Member}
@@ -10,6 +11,7 @@ use Rattle.ddf_config.specs.Seats.{floor_of}
 use Rattle.ddf_config.specs.States.{is_marked}
 use Rattle.ddf_config.specs.Unusable.{is_served_on}
 use Rattle.ddf_config.specs.declared.member.SpareUse.TheVariants.{No, Global}
+use Rattle.ddf_config.proofs.Common.{same_self}
 use Rattle.ddf_array.specs.Viewing.{is_array_within, is_seated, view_of}
 use Rattle.ddf_request.specs.Named.{named_array}
 use Rattle.ddf_request.specs.Usable.{bad_blocks, useless}
@@ -24,7 +26,7 @@ use Rattle.ddf_array.specs.declared.place.Place.{Place}
 use Rattle.ddf_array.specs.Volume.{IsVolume}
 use Rattle.ddf_exercise_config.specs.Views.{part, place, places_at, places_begun, view_at, view_begun, volume_on}
 use Rattle.ddf_exercise_config.specs.Words.{word}
-use Rattle.ddf_exercise_config.proofs.Bools.{guid_is, same}
+use Rattle.ddf_exercise_config.proofs.Bools.{same}
 use Rattle.ddf_exercise_config.proofs.Seen as seen
 use Rattle.ddf_exercise_config.proofs.Tables as tables
 use Rattle.ddf_exercise_config.proofs.Trios as trios
@@ -37,7 +39,7 @@ none_is_bad disks Closing one = refl
 
 -- the word names it
 pub is_named : (guid : List ℕ) (positions : List Position) (state init : ℕ) → named_array ((guid, array positions state init) ∷ []) word ≡ Some (guid, array positions state init)
-is_named guid positions state init = simp guid_is
+is_named guid positions state init = simp same_self
 
 module _ (group : List ℕ) (disks : Disks) (apart : AreApart disks) (guid : List ℕ) where
   module _ (state init : ℕ) where
@@ -187,17 +189,14 @@ module _ (i j k : ℕ) (ij : i ≡ j → ⊥) (ik : i ≡ k → ⊥) (jk : j ≡
 
 -- ---- what every view keeps
 
-differ : (m n : ℕ) → eqb m n ≡ false → m ≡ n → ⊥
-differ m n e is = grind arith
-
 pub is_apart_at : (turn : Turn) (is_marked : Bool) → IsApart (view_at turn is_marked)
-is_apart_at Opening is_marked = is_apart 0 1 2 (differ 0 1 refl) (differ 0 2 refl) (differ 1 2 refl) true true true is_marked
-is_apart_at Middle is_marked = is_apart 0 3 2 (differ 0 3 refl) (differ 0 2 refl) (differ 3 2 refl) true true true is_marked
-is_apart_at Closing is_marked = is_apart 0 3 4 (differ 0 3 refl) (differ 0 4 refl) (differ 3 4 refl) true true true is_marked
+is_apart_at Opening is_marked = is_apart 0 1 2 (eqb-false 0 1 refl) (eqb-false 0 2 refl) (eqb-false 1 2 refl) true true true is_marked
+is_apart_at Middle is_marked = is_apart 0 3 2 (eqb-false 0 3 refl) (eqb-false 0 2 refl) (eqb-false 3 2 refl) true true true is_marked
+is_apart_at Closing is_marked = is_apart 0 3 4 (eqb-false 0 3 refl) (eqb-false 0 4 refl) (eqb-false 3 4 refl) true true true is_marked
 
 pub is_apart_begun : (loss : Loss) → IsApart (view_begun loss)
-is_apart_begun OfSecond = is_apart 0 3 2 (differ 0 3 refl) (differ 0 2 refl) (differ 3 2 refl) true false true false
-is_apart_begun OfThird = is_apart 0 3 4 (differ 0 3 refl) (differ 0 4 refl) (differ 3 4 refl) true true false false
+is_apart_begun OfSecond = is_apart 0 3 2 (eqb-false 0 3 refl) (eqb-false 0 2 refl) (eqb-false 3 2 refl) true false true false
+is_apart_begun OfThird = is_apart 0 3 4 (eqb-false 0 3 refl) (eqb-false 0 4 refl) (eqb-false 3 4 refl) true true false false
 
 pub is_volume_at : (turn : Turn) (is_marked : Bool) → IsVolume (view_at turn is_marked)
 is_volume_at Opening is_marked = seen.is_volume 0 1 2 true true true is_marked

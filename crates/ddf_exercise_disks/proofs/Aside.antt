@@ -8,7 +8,7 @@ use Rattle.ddf_config.specs.declared.seat.Seat.{Seat}
 use Rattle.ddf_seats.specs.declared.seated.Seated.{Seated}
 use Rattle.ddf_seats.specs.Seated.{seats_in}
 use Rattle.ddf_steps.specs.Steps.{Step}
-use Rattle.ddf_data_disks.proofs.Records.{written_past}
+use Rattle.ddf_steps.proofs.Common.{written_past}
 use Rattle.ddf_group_commands.specs.Written.{AreWritten, HasCopy, IsWritten}
 use Rattle.ddf_uncut_group.specs.Plain.{ArePlain, IsPlain}
 use Rattle.ddf_uncut_group.proofs.PlainCopies.{plain_floor}

@@ -1,7 +1,8 @@
 -- Calls that only read the blocks of an array, where nothing refuses them and no slot of a seat fails.
-use Rattle.std.proofs.Common.{◌≡◌, ◌∙◌, ◌⊎◌, ℕ, suc, ◌+◌, ◌≤◌, Bool, false, List, [], ◌∷◌, ◌++◌, length, map, replicate, Option, Some, None, Result, Ok, Err, codes, refl, sym, ap, subst, inl, inr, ⊎_elim, arith, lit≤}
+use Rattle.std.proofs.Common.{◌≡◌, ◌∙◌, ◌⊎◌, ℕ, suc, ◌+◌, ◌≤◌, Bool, false, List, [], ◌∷◌, ◌++◌, length, map, replicate, Some, None, Result, Ok, Err, codes, refl, sym, ap, subst, inl, inr, ⊎_elim, arith, lit≤}
 use Rattle.std.specs.Prelude.{slice_get, slice_index, slice_index_or}
 use Rattle.std.specs.List.{flat_map, range_with_len}
+use Rattle.ddf_lemmas.proofs.Options.{same_ok_value, same_some, none_some}
 use Rattle.ddf_bytes.specs.Streams.{SinkState}
 use Rattle.ddf_bay.specs.Memory.{disks_of, state_of}
 use Rattle.ddf_bay.specs.ReadsOnly.{ReadsOnly}
@@ -9,7 +10,6 @@ use Rattle.ddf_bay.specs.Sectors.{Image}
 use Rattle.ddf_bay.specs.declared.memory.MemoryBay.{MemoryBay}
 use Rattle.ddf_update.specs.Group.{IsOneOf}
 use Rattle.ddf_config.specs.declared.array.Array.{Array}
-use Rattle.ddf_config.specs.declared.refusal.Refusal.{Refusal}
 use Rattle.ddf_config.specs.declared.seat.Seat.{Seat}
 use Rattle.ddf_config.specs.Configuration.{Configuration}
 use Rattle.ddf_array.specs.Viewing.{view_of}
@@ -22,7 +22,6 @@ use Rattle.ddf_read.proofs.SourceSlots.{first_on}
 use Rattle.ddf_cells.specs.Alike.{IsCell}
 use Rattle.ddf_cells.proofs.Alike.{IsOfCells, depth_below, source_is_cells, whole_cells}
 use Rattle.ddf_cells.proofs.Alike.IsOfCells.{of_copy, of_row}
-use Rattle.ddf_data_group.proofs.Clearly.{lies_of}
 use Rattle.ddf_resync.specs.Compared.{FailedOn, IsCompared}
 use Rattle.ddf_resync.specs.Scrubbing.{IsScrubbed}
 use Rattle.ddf_resync.specs.declared.outcome.Scrub.{Scrub}
@@ -41,6 +40,8 @@ use Rattle.ddf_read_commands.specs.Read.{IsReadDone, IsReadIn, IsReadOf, IsReadT
 use Rattle.ddf_read_commands.specs.Read.Outcome.{CutShort, NotRead, Stopped, Whole}
 use Rattle.ddf_read_commands.specs.Scrub.{IsScrubDone, IsScrubIn, IsScrubOf, IsScrubTold, scrub_refusal, scrub_text}
 use Rattle.ddf_recovery.proofs.Trusted.{trusted_all}
+use Rattle.ddf_rebuild.proofs.Aiming.{cell_lies}
+use Rattle.ddf_read_commands.proofs.Common.{read_memory}
 use Rattle.ddf_uncut_group.specs.Settled.{AreSettledAs}
 use Rattle.ddf_uncut_group.proofs.SettledStray.{not_stray}
 use Rattle.ddf_uncut_data.specs.Blocks.{HoldsBlocks}
@@ -60,15 +61,6 @@ use Rattle.ddf_exercise_disks.proofs.Clip.{memory_sectors}
 use Rattle.ddf_exercise_disks.proofs.Healthy.{stays_well}
 use Rattle.ddf_exercise_disks.proofs.Standing.{calm as calm_on, finds}
 use Rattle.ddf_exercise_disks.proofs.WritingRoom.{cell_seat, place_seat}
-
-same_some : {X : Type 0} (found : Option X) (one other : X) → found ≡ Some one → found ≡ Some other → one ≡ other
-same_some {X = X} found one other is at = let both : ◌≡◌ {A = Option X} (Some one) (Some other) = sym is ∙ at in cc
-
-same_ok : {X E : Type 0} (found : Result X E) (one other : X) → found ≡ Ok one → found ≡ Ok other → one ≡ other
-same_ok {X = X} {E = E} found one other is at = let both : ◌≡◌ {A = Result X E} (Ok one) (Ok other) = sym is ∙ at in cc
-
-no_refusal : (refused : Option Refusal) (refusal : Refusal) → refused ≡ None → refused ≡ Some refusal → ⊥
-no_refusal refused refusal none is = let both : ◌≡◌ {A = Option Refusal} None (Some refusal) = sym none ∙ is in cc
 
 -- ---- bytes
 
@@ -105,16 +97,6 @@ scrub_memory (Err (Disk slot)) = inr (λ is. cc)
 scrub_memory (Err (Conflict i j sequence differ)) = inr (λ is. cc)
 scrub_memory (Err (Split i j)) = inr (λ is. cc)
 scrub_memory (Err Memory) = inl refl
-
-read_memory : (outcome : Outcome) → (outcome ≡ NotRead Memory) ⊎ (outcome ≡ NotRead Memory → ⊥)
-read_memory (Whole sectors) = inr (λ is. cc)
-read_memory (NotRead (Refused refusal)) = inr (λ is. cc)
-read_memory (NotRead (Disk slot)) = inr (λ is. cc)
-read_memory (NotRead (Conflict i j sequence differ)) = inr (λ is. cc)
-read_memory (NotRead (Split i j)) = inr (λ is. cc)
-read_memory (NotRead Memory) = inl refl
-read_memory (Stopped front slot) = inr (λ is. cc)
-read_memory (CutShort front) = inr (λ is. cc)
 
 -- ---- the sectors that a scrub compares
 
@@ -195,7 +177,7 @@ module _ (name : List ℕ) (total asked : ℕ) (out : List Bool) (disks : Disks)
       let is : entry ≡ (guid, array (positions_at disks turn) 0 2) =
       same_some (named_array config.arrays word) entry (guid, array (positions_at disks turn) 0 2) (ap (λ (some : Configuration). named_array some.arrays word) (sym stands.config_is) ∙ is_named)
       (used.is_named guid (positions_at disks turn) 0 2) in
-      same_ok (view_of config guid seats) volume view
+      same_ok_value (view_of config guid seats) volume view
       (sym
       (ap (λ (some : Configuration). view_of some entry.0 (trusted_seats stands.group)) stands.config_is
       ∙ ap (λ (one : List ℕ × Array). view_of config one.0 (trusted_seats stands.group)) is
@@ -227,12 +209,12 @@ module _ (name : List ℕ) (total asked : ℕ) (out : List Bool) (disks : Disks)
         (λ zero. inr (inr (zero, (ends.tells tt).whole (omega (arith, zero)) ∙ ap (λ (one : Scrub). unused.taken ++ (scrub_text one ++ codes "\n")) clean, stores_still)))
         (λ short. ⊎_elim inl (λ six. inr (inl six)) short)
         ends.ends
-    scrub_by (Err (Refused refusal)) is ends = absurd (no_refusal (scrub_refusal stands.group.config (trusted_seats stands.group) (named_array stands.group.config.arrays word)) refusal scrubs is)
+    scrub_by (Err (Refused refusal)) is ends = absurd (none_some (scrub_refusal stands.group.config (trusted_seats stands.group) (named_array stands.group.config.arrays word)) refusal scrubs is)
     scrub_by (Err (Disk slot)) is ends =
         let volume = seen_so (is.used.0, is.usable.array) is.used.1 is.usable.is_named is.usable.is_view in
         let failed : FailedOn view (disks_of old) (disks_of new) slot = subst (λ (v : Volume). FailedOn v (disks_of old) (disks_of new) slot) volume is.stopped.1 in
         let cell = compared_cell view (used.is_volume_at turn false) slot failed.0 in
-        let lies = lies_of view slot cell.0 cell.1 in
+        let lies = cell_lies view slot cell.0 cell.1 in
         absurd (calm_seat slot (cell_seat disks turn false cell.1.element cell.1.position cell.1.sector slot cell.0 lies) failed.1)
     scrub_by (Err (Conflict i j sequence differ)) is ends = absurd is
     scrub_by (Err (Split i j)) is ends = absurd is
@@ -277,7 +259,7 @@ module _ (name : List ℕ) (total asked : ℕ) (out : List Bool) (disks : Disks)
           are ∙ ap (λ (n : ℕ). map (filled_with bytes) (range_with_len 0 n)) same ∙ blocks_filled bytes in
           inr (inr (ends.ends, ends.tells tt ∙ ap (λ (one : List (List ℕ)). unused.taken ++ bytes_of one) all ∙ ap (λ (told : List ℕ). unused.taken ++ told) (bytes_joined bytes), stores_still))
       read_by (NotRead (Refused refusal)) is ends =
-          absurd (no_refusal (read_refusal stands.group.config (trusted_seats stands.group) (named_array stands.group.config.arrays word) 0 8192) refusal accepted is)
+          absurd (none_some (read_refusal stands.group.config (trusted_seats stands.group) (named_array stands.group.config.arrays word) 0 8192) refusal accepted is)
       read_by (NotRead (Disk slot)) is ends = absurd (has_source is.0 0 _ slot is.1 is.2)
       read_by (NotRead (Conflict i j sequence differ)) is ends = absurd is.2
       read_by (NotRead (Split i j)) is ends = absurd is.2

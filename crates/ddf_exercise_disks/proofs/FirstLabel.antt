@@ -3,6 +3,7 @@ use Rattle.std.proofs.Common.{◌≡◌, ◌∙◌, ℕ, zero, suc, ◌+◌, ◌
 use Rattle.std.specs.Prelude.{slice_get, slice_index, slice_index_or}
 use Rattle.std.specs.List.{AllByRecursion}
 use Rattle.std.proofs.lemmas.Bool.{cases_lt}
+use Rattle.ddf_lemmas.proofs.Lists.{zero_first}
 use Rattle.ddf_bytes.specs.declared.stamp.Stamp.{Stamp}
 use Rattle.ddf_bytes.specs.Streams.{SinkState}
 use Rattle.ddf_bay.specs.Logged.{held_of, zeros as zeros_held}
@@ -43,11 +44,6 @@ false_at : (n slot : ℕ) → slice_index_or (replicate n false) slot false ≡ 
 false_at zero slot = refl
 false_at (suc n) zero = refl
 false_at (suc n) (suc slot) = false_at n slot
-
-zero_at : (n slot : ℕ) → slice_index (replicate n 0) slot ≡ 0
-zero_at zero slot = refl
-zero_at (suc n) zero = refl
-zero_at (suc n) (suc slot) = zero_at n slot
 
 abbrev five : List ℕ
 five = 0 ∷ 1 ∷ 2 ∷ 3 ∷ 4 ∷ []
@@ -95,8 +91,8 @@ module _ (total : ℕ) (old : MemoryBay) (made : state_of old ≡ blank sizes_ma
     sizes_are = made_sizes;
     five = refl;
     plugged = λ slot low. ap (λ (bay : MemoryState). slice_index_or bay.unplugged slot false) made ∙ false_at 64 slot ∙ sym (false_at 5 slot);
-    no_reads = λ slot low here. ap (λ (bay : MemoryState). slice_index bay.failed_reads slot) made ∙ zero_at 64 slot;
-    no_writes = λ slot low here. ap (λ (bay : MemoryState). slice_index bay.failed_writes slot) made ∙ zero_at 64 slot;
+    no_reads = λ slot low here. ap (λ (bay : MemoryState). slice_index bay.failed_reads slot) made ∙ zero_first 64 slot;
+    no_writes = λ slot low here. ap (λ (bay : MemoryState). slice_index bay.failed_writes slot) made ∙ zero_first 64 slot;
     room_is = made_room;
   }
 

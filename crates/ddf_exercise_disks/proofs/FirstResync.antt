@@ -1,7 +1,9 @@
 -- The resync of a new array, of which nothing was written yet: its blocks are zeros.
-use Rattle.std.proofs.Common.{◌≡◌, ◌∙◌, ◌⊎◌, ℕ, zero, suc, ◌+◌, ◌*◌, ◌^◌, ◌<◌, ◌≤◌, Bool, true, false, List, [], ◌∷◌, ◌++◌, length, fold, max, replicate, Option, Some, None, Result, Ok, refl, sym, ap, subst, inl, inr, ⊎_elim, arith}
-use Rattle.std.specs.Prelude.{if◌then◌else◌, slice_get, slice_index}
+use Rattle.std.proofs.Common.{◌≡◌, ◌∙◌, ◌⊎◌, ℕ, zero, suc, ◌+◌, ◌*◌, ◌^◌, ◌<◌, ◌≤◌, Bool, true, false, List, [], ◌∷◌, ◌++◌, length, fold, max, replicate, Some, None, Ok, refl, sym, ap, subst, inl, inr, ⊎_elim, arith}
+use Rattle.std.specs.Prelude.{if◌then◌else◌, slice_get}
 use Rattle.std.specs.List.{AllByRecursion}
+use Rattle.ddf_lemmas.proofs.Lists.{zero_first}
+use Rattle.ddf_lemmas.proofs.Options.{same_ok_value, same_some}
 use Rattle.ddf_bytes.specs.Streams.{SinkState}
 use Rattle.ddf_bay.specs.Memory.{disks_of, state_of}
 use Rattle.ddf_bay.specs.Moments.{GoesOn}
@@ -26,7 +28,7 @@ use Rattle.ddf_read.specs.Reading.{Failed}
 use Rattle.ddf_resync.specs.Several.{resync_sectors}
 use Rattle.ddf_resync.proofs.Extents.{sectors_in_extents}
 use Rattle.ddf_data_group.specs.Clear.{ChangesItsCells, IsItsCell}
-use Rattle.ddf_data_group.proofs.Clearly.{lies_of, resync_changes}
+use Rattle.ddf_data_group.proofs.Clearly.{resync_changes}
 use Rattle.ddf_history_steps.specs.BlockFloors.{floor_in}
 use Rattle.ddf_resync.specs.Resyncing.{HasResynced, IsLeftByResync}
 use Rattle.ddf_seats.specs.declared.seated.Seated.{Seated}
@@ -35,8 +37,9 @@ use Rattle.ddf_assembly.specs.Group.{group_of}
 use Rattle.ddf_recovery.specs.Ready.{readied}
 use Rattle.ddf_recovery.specs.Recovery.{config_recovered}
 use Rattle.ddf_steps.specs.Refusing.{most_members, step_refusal}
-use Rattle.ddf_seats.specs.Seated.{seated, seats_in}
+use Rattle.ddf_seats.specs.Seated.{seated}
 use Rattle.ddf_steps.specs.Steps.{Step}
+use Rattle.ddf_rebuild.proofs.Aiming.{cell_lies}
 use Rattle.ddf_request.specs.Named.{named_array}
 use Rattle.ddf_text.specs.Done.{sequence_line}
 use Rattle.ddf_answer.specs.Call.{Work, answer_of, work_of}
@@ -53,7 +56,7 @@ use Rattle.ddf_uncut_group.specs.Asking.{AreNext, AreReadiedTo, IsNothing}
 use Rattle.ddf_uncut_group.specs.Blocks.{LeavesRecords}
 use Rattle.ddf_uncut_group.specs.Plain.{ArePlain, HavePlain}
 use Rattle.ddf_uncut_group.specs.Settled.{AreSettledAs, IsToldByAll, group_behind}
-use Rattle.ddf_uncut_group.proofs.AskingReadied.{all_asked, all_readied}
+use Rattle.ddf_uncut_group.proofs.AskingReadied.{all_asked, all_readied, seats_long}
 use Rattle.ddf_uncut_group.proofs.BlocksBelow.{blocks_settled}
 use Rattle.ddf_uncut_group.proofs.PlainNewest.{newest_seated}
 use Rattle.ddf_uncut_group.proofs.StepsSettled.{steps_settled}
@@ -84,12 +87,9 @@ use Rattle.ddf_exercise_disks.proofs.Next.{makes_next}
 use Rattle.ddf_exercise_disks.proofs.Healthy.{stays_well}
 use Rattle.ddf_exercise_disks.proofs.Outcomes.{resync_ends}
 use Rattle.ddf_exercise_disks.proofs.Standing.{asks, calm as calm_on, ends_then, finds, last_is, memory_or, memory_told, on_five, recovered, steps_cost}
+use Rattle.ddf_exercise_disks.proofs.WritingRoom.{place_at}
 
 -- ---- a change that is no step
-
-seats_long : (disks : List Seated) → length (seats_in disks) ≡ length disks
-seats_long [] = refl
-seats_long (disk ∷ disks) = ap suc (seats_long disks)
 
 most_from : (disks : List Seated) (so_far : ℕ) → ArePlain sizes_made disks → (so_far ≡ 16) ⊎ ((so_far ≡ 0) × (0 < length disks))
     → fold (λ most (disk : Seated). max most disk.copy.header.geometry.max_members) so_far disks ≡ 16
@@ -125,12 +125,6 @@ part_is : (element : ℕ) (part : Part) → slice_get view.parts element ≡ Som
 part_is zero part at = let is : laid (places_at Opening) ≡ part = cc in ap (λ (one : Part). one.places) (sym is)
 part_is (suc element) part at = absurd cc
 
--- what each place is, one of them is
-place_at : (P : Place → Type 0) (places : List Place) → AllByRecursion P places → (position : ℕ) (place : Place) → slice_get places position ≡ Some place → P place
-place_at P [] all position place at = absurd cc
-place_at P (one ∷ places) all zero place at = let is : one ≡ place = cc in subst P is all.0
-place_at P (one ∷ places) all (suc position) place at = place_at P places all.1 position place at
-
 view_place : (P : Place → Type 0) → AllByRecursion P (places_at Opening) → (element position : ℕ) (part : Part) (place : Place) → slice_get view.parts element ≡ Some part → slice_get part.places position ≡ Some place
     → P place
 view_place P all element position part place at there = place_at P (places_at Opening) all position place (subst (λ (places : List Place). slice_get places position ≡ Some place) (part_is element part at) there)
@@ -165,23 +159,11 @@ resync_few = by (is_redundant view)
     by true = few
     by false = omega arith
 
--- Bytes that are all zero fill blocks of zeros.
-zero_index : (n block : ℕ) → slice_index (replicate n 0) block ≡ 0
-zero_index zero block = refl
-zero_index (suc n) zero = refl
-zero_index (suc n) (suc block) = zero_index n block
-
 zero_filled : (block : ℕ) → filled_with (replicate 8192 0) block ≡ zeros
 unfolding zeros
-zero_filled block = ap (λ (byte : ℕ). replicate 512 byte) (zero_index 8192 block)
+zero_filled block = ap (λ (byte : ℕ). replicate 512 byte) (zero_first 8192 block)
 
 -- ---- results
-
-same_some : {X : Type 0} (found : Option X) (one other : X) → found ≡ Some one → found ≡ Some other → one ≡ other
-same_some {X = X} found one other is at = let both : ◌≡◌ {A = Option X} (Some one) (Some other) = sym is ∙ at in cc
-
-same_ok : {X E : Type 0} (found : Result X E) (one other : X) → found ≡ Ok one → found ≡ Ok other → one ≡ other
-same_ok {X = X} {E = E} found one other is at = let both : ◌≡◌ {A = Result X E} (Ok one) (Ok other) = sym is ∙ at in cc
 
 asked_most : (new old asked steps most : ℕ) → new ≤ old + (steps + most) → old ≤ asked → steps ≤ 415 → most ≤ 12288 → new ≤ asked + 415 + 12288
 asked_most new old asked steps most cost before few small = omega (arith, cost, before, few, small)
@@ -249,18 +231,18 @@ module _ (name : List ℕ) (total asked : ℕ) (out : List Bool) (disks : Disks)
     -- no step comes before the blocks
     first_none : plan.first ≡ []
     first_none =
-        same_ok (readied stands.group (Mark guid ∷ []) timestamp) plan.first []
+        same_ok_value (readied stands.group (Mark guid ∷ []) timestamp) plan.first []
         (sym (ap (λ (entry : Entry). readied stands.group (marking entry) timestamp) entry_is) ∙ plan.are_first) mark_ready
 
     all_are : plan.first ++ plan.last ≡ readies.steps
-    all_are = same_ok (steps_of stands.group timestamp asking) (plan.first ++ plan.last) readies.steps plan.are_asked steps_are
+    all_are = same_ok_value (steps_of stands.group timestamp asking) (plan.first ++ plan.last) readies.steps plan.are_asked steps_are
 
     last_are : plan.last ≡ readies.steps
     last_are = sym (ap (λ (first : List Step). first ++ plan.last) first_none) ∙ all_are
 
     volume_is : plan.volume ≡ view
     volume_is =
-        same_ok (view_of config guid seats) plan.volume view
+        same_ok_value (view_of config guid seats) plan.volume view
         (sym
         (ap (λ (first : List Step). view_of (config_behind stands.group.config first) plan.entry.0 stands.group.seats) first_none
         ∙ ap (λ (some : Configuration). view_of some plan.entry.0 stands.group.seats) stands.config_is
@@ -325,7 +307,7 @@ module _ (name : List ℕ) (total asked : ℕ) (out : List Bool) (disks : Disks)
       -- The blocks are zeros.
       blank : IsBlank view blocks.before
       blank slot lba cell =
-          let low = view_below Opening true cell.element cell.position cell.sector slot lba (lies_of view slot lba cell) in
+          let low = view_below Opening true cell.element cell.position cell.sector slot lba (cell_lies view slot lba cell) in
           before_same slot lba ∙ empty slot lba (omega (arith, low))
 
       holds_behind : HoldsBlocks (view_at Opening false) blocks.behind (λ block. zeros)

@@ -1,6 +1,8 @@
 -- Disks in memory stay well while they have room for what is written, and which slots a call leaves out.
 use Rattle.std.proofs.Common.{◌≡◌, ◌∙◌, ℕ, zero, suc, ◌+◌, ◌<◌, ◌≤◌, Bool, true, false, List, [], ◌∷◌, length, refl, sym, ap, subst, ⊎_elim, arith}
 use Rattle.std.specs.Prelude.{IsTrue, slice_index, slice_index_or}
+use Rattle.std.proofs.lemmas.Bool.{true_from_ne_false}
+use Rattle.std.specs.Cmp.Derive.{one_truth}
 use Rattle.ddf_bay.specs.Memory.{IsPlugged, IsShort, MayBecome, disks_of, state_of}
 use Rattle.ddf_bay.specs.MemoryLaws.{becomes_start}
 use Rattle.ddf_bay.specs.Moments.{GoesOn}
@@ -77,15 +79,6 @@ bits_same (a ∷ ones) (b ∷ bits) long same =
     let rest : ones ≡ bits = bits_same ones bits (omega (arith, long)) (λ slot low. same (suc slot) (omega (arith, low))) in
     rw (first, rest) refl
 
-bit_same : (a b : Bool) → (a ≡ true → b ≡ true) → (b ≡ true → a ≡ true) → a ≡ b
-bit_same true b to back = sym (to refl)
-bit_same false true to back = back refl
-bit_same false false to back = refl
-
-by_bit : (b : Bool) → (b ≡ false → ⊥) → b ≡ true
-by_bit true not_false = refl
-by_bit false not_false = absurd (not_false refl)
-
 -- They are the unplugged ones.
 pub left_is : (total : ℕ) (out left : List Bool) (old new : MemoryBay) → IsWell total out old → GoesOn (disks_of old) (disks_of new)
     → length left ≡ length (disks_of old).sizes
@@ -95,6 +88,6 @@ left_is total out left old new well goes long failed gone =
     let five : length left ≡ 5 = long ∙ ap (λ (sizes : List ℕ). length sizes) well.sizes_are in
     bits_same left out (five ∙ sym well.five) (λ slot low.
     let small : slot < 5 = subst (λ (n : ℕ). slot < n) five low in
-    bit_same (slice_index_or left slot false) (slice_index_or out slot false)
-    (λ is_left. by_bit (slice_index_or out slot false) (λ here. looks_well total out old new well goes slot small here (failed slot low is_left)))
+    one_truth (slice_index_or left slot false) (slice_index_or out slot false)
+    (λ is_left. true_from_ne_false (slice_index_or out slot false) (λ here. looks_well total out old new well goes slot small here (failed slot low is_left)))
     (λ is_out. gone slot low (well.plugged slot small ∙ is_out)))

@@ -1,6 +1,7 @@
 -- How a command ends on a group that it finds, that refuses it nothing, and of whose slots no call fails: it is done, or memory ran out, or its output failed.
 use Rattle.std.proofs.Common.{◌≡◌, ◌∙◌, ◌⊎◌, ℕ, zero, suc, ◌+◌, ◌-◌, ◌*◌, ◌<◌, ◌≤◌, ◌==◌, Bool, true, false, List, [], ◌∷◌, ◌++◌, length, min, Option, Some, None, Result, Ok, Err, codes, refl, sym, ap, subst, inl, inr, ⊎_elim, arith, length-append}
 use Rattle.std.proofs.lemmas.Fmt.{decimal_digit}
+use Rattle.ddf_lemmas.proofs.Options.{none_some as no_refusal}
 use Rattle.ddf_bytes.specs.declared.stamp.Stamp.{Stamp}
 use Rattle.ddf_bay.specs.ReadsOnly.{SlotRose}
 use Rattle.ddf_header.specs.declared.kind.Revision.{Revision}
@@ -99,7 +100,7 @@ module _ {D : Type 0} (work : Work D) (tells : work.tells) (revision : Revision)
 
 -- ---- steps that are asked for
 
-same_steps : (asked : Result (List Step) Failure) (steps others : List Step) → asked ≡ Ok steps → asked ≡ Ok others → others ≡ steps
+pub same_steps : (asked : Result (List Step) Failure) (steps others : List Step) → asked ≡ Ok steps → asked ≡ Ok others → others ≡ steps
 same_steps asked steps others are is = let both : ◌≡◌ {A = Result (List Step) Failure} (Ok steps) (Ok others) = sym are ∙ is in cc
 
 not_refused : (asked : Result (List Step) Failure) (steps : List Step) (failure : Failure) → asked ≡ Ok steps → asked ≡ Err failure → ⊥
@@ -271,9 +272,6 @@ module _ {D : Type 0} (work : Work D) (answer : Answer) (told : answer.tells) (f
     rebuild_ends named done is = rebuild_by done.outcome (subst (λ (meaning : Result GroupValue Assembly). IsRebuiltIn work timestamp word meaning done.outcome) is done.has.gives) done.ends
 
 -- ---- scrub
-
-pub no_refusal : (refused : Option Refusal) (refusal : Refusal) → refused ≡ None → refused ≡ Some refusal → ⊥
-no_refusal refused refusal none is = let both : ◌≡◌ {A = Option Refusal} None (Some refusal) = sym none ∙ is in cc
 
 module _ {D : Type 0} (work : Work D) (answer : Answer) (told : answer.tells) (found : GroupValue) (word : List ℕ) where
   module _ (accepted : scrub_refusal found.config (trusted_seats found) (named_array found.config.arrays word) ≡ None)

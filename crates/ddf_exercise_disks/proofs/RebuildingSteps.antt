@@ -1,9 +1,13 @@
 -- The steps of a rebuild of an exercise: the loss of the disk that is gone, the spare in its place, and the end.
-use Rattle.std.proofs.Common.{◌≡◌, ◌∙◌, ℕ, ◌+◌, ◌*◌, ◌^◌, ◌<◌, ◌≤◌, ◌==◌, Bool, false, not, List, [], ◌∷◌, ◌++◌, length, filter, Some, None, Result, Ok, refl, sym, ap, subst, inr, arith, lit≤, lit<}
+use Rattle.std.proofs.Common.{◌≡◌, ◌∙◌, ℕ, ◌+◌, ◌*◌, ◌^◌, ◌<◌, ◌≤◌, ◌==◌, Bool, false, not, List, [], ◌∷◌, ◌++◌, length, filter, Some, None, Result, Ok, refl, sym, ap, subst, inr, arith, lit≤, lit<, length-append}
 use Rattle.std.specs.Prelude.{slice_get}
 use Rattle.std.specs.List.{AllByRecursion}
 use Rattle.std.proofs.lemmas.Bool.{le-ltb}
 use Rattle.std.proofs.Math.Nat.{mul-le-mul_left}
+use Rattle.std.proofs.lemmas.List.{append_cancel_left}
+use Rattle.std.proofs.lemmas.Option.{same_Some}
+use Rattle.ddf_lemmas.proofs.Options.{same_ok}
+use Rattle.ddf_lemmas.proofs.Lists.{all_append}
 use Rattle.ddf_config.specs.declared.seat.Seat.{Seat}
 use Rattle.ddf_config.specs.Configuration.{Configuration}
 use Rattle.ddf_rewrite.specs.Wanted.{all_wanted}
@@ -64,6 +68,7 @@ use Rattle.ddf_uncut_group.proofs.UnpluggedTold.{told_without}
 use Rattle.ddf_exercise_disks.proofs.Standing.{last_is, steps_cost}
 use Rattle.ddf_exercise_disks.specs.Lost.{lost_slot}
 use Rattle.ddf_exercise_disks.specs.Well.{sizes_made}
+use Rattle.ddf_exercise_disks.proofs.WritingRoom.{behind_is}
 
 -- ---- the seat that is lost
 
@@ -96,31 +101,9 @@ seats_left disks OfThird = refl
 
 -- ---- lists
 
-ok_same : {X Y : Type 0} (x y : X) → ◌≡◌ {A = Result X Y} (Ok x) (Ok y) → x ≡ y
-ok_same x y same = cc
-
-some_same : {X : Type 0} (x y : X) → Some x ≡ Some y → x ≡ y
-some_same x y same = cc
-
-append_same : (xs ys zs : List Step) → xs ++ ys ≡ xs ++ zs → ys ≡ zs
-append_same [] ys zs same = same
-append_same (x ∷ xs) ys zs same = append_same xs ys zs (let rest : xs ++ ys ≡ xs ++ zs = cc in rest)
-
-all_both : (P : Step → Type 0) (xs ys : List Step) → AllByRecursion P xs → AllByRecursion P ys → AllByRecursion P (xs ++ ys)
-all_both P [] ys none all = all
-all_both P (x ∷ xs) ys first all = (first.0, all_both P xs ys first.1 all)
-
-both_long : (xs ys : List Step) → length (xs ++ ys) ≡ length xs + length ys
-both_long [] ys = omega arith
-both_long (x ∷ xs) ys = let rest = both_long xs ys in omega (arith, rest)
-
 pub behind_both : (group : GroupValue) (xs ys : List Step) → group_behind group (xs ++ ys) ≡ group_behind (group_behind group xs) ys
 behind_both group [] ys = refl
 behind_both group (x ∷ xs) ys = behind_both (group_after group x) xs ys
-
-behind_is : (group : GroupValue) (steps : List Step) → config_behind group.config steps ≡ (group_behind group steps).config
-behind_is group [] = refl
-behind_is group (step ∷ steps) = behind_is (group_after group step) steps
 
 -- rows that are one round's
 pub record IsOneRound (rounds : List Round) : Type 0 where
@@ -314,7 +297,7 @@ module _ {name : List ℕ} {disks : Disks} {guid : List ℕ} {loss : Loss} {sequ
   on_seats : AllByRecursion (λ (step : Step). seats_in step.disks ≡ seats) all_steps
   on_seats = (
     after_seats,
-    all_both (λ (step : Step). seats_in step.disks ≡ seats) both.first.steps both.second.steps
+    all_append (λ (step : Step). seats_in step.disks ≡ seats) both.first.steps both.second.steps
         (subst (λ (all : List Seat). AllByRecursion (λ (step : Step). seats_in step.disks ≡ all) both.first.steps) after_seats both.first.on_all)
         (subst (λ (all : List Seat). AllByRecursion (λ (step : Step). seats_in step.disks ≡ all) both.second.steps) (both.first.same_seats ∙ after_seats) both.second.on_all),
   )
@@ -329,11 +312,11 @@ module _ {name : List ℕ} {disks : Disks} {guid : List ℕ} {loss : Loss} {sequ
   second_on = subst (λ (all : List Seat). AllByRecursion (λ (step : Step). seats_in step.disks ≡ all) both.second.steps) (both.first.same_seats ∙ after_seats) both.second.on_all
 
   all_plain : AllByRecursion (λ (step : Step). ArePlain sizes_made step.disks) all_steps
-  all_plain = (loss_is_plain, all_both (λ (step : Step). ArePlain sizes_made step.disks) both.first.steps both.second.steps both.first.plain_steps both.second.plain_steps)
+  all_plain = (loss_is_plain, all_append (λ (step : Step). ArePlain sizes_made step.disks) both.first.steps both.second.steps both.first.plain_steps both.second.plain_steps)
 
   three : length all_steps ≤ 3
   three =
-      let long = both_long both.first.steps both.second.steps in
+      let long = length-append both.first.steps both.second.steps in
       let one = both.first.few in
       let other = both.second.few in
       omega (arith, long, one, other)
@@ -355,7 +338,7 @@ module _ {name : List ℕ} {disks : Disks} {guid : List ℕ} {loss : Loss} {sequ
 
   -- the entry that the word names
   its_entry : (entry : Entry) → named_array (config_recovered without).arrays word ≡ Some entry → entry ≡ (guid, left)
-  its_entry entry named = some_same entry (guid, left) (sym named ∙ ap (λ (config : Configuration). named_array config.arrays word) recovered ∙ used.is_named guid (stages.positions_lost disks loss) 1 2)
+  its_entry entry named = same_Some entry (guid, left) (sym named ∙ ap (λ (config : Configuration). named_array config.arrays word) recovered ∙ used.is_named guid (stages.positions_lost disks loss) 1 2)
 
   it_begins : (entry : Entry) → named_array (config_recovered without).arrays word ≡ Some entry → begun_at (config_recovered without) entry.0 without.seats (passed_over (linux_members without) entry.1) ≡ Ok (Fresh its_target begins)
   it_begins entry named =
@@ -386,13 +369,13 @@ module _ {name : List ℕ} {disks : Disks} {guid : List ℕ} {loss : Loss} {sequ
     target_is = begins_at.0
 
     pub first_is : plan.first ≡ first_steps
-    first_is = ok_same plan.first first_steps (sym plan.are_first ∙ ap (λ (changes : List Change). readied without changes timestamp) begins_at.2 ∙ first_ready)
+    first_is = same_ok plan.first first_steps (sym plan.are_first ∙ ap (λ (changes : List Change). readied without changes timestamp) begins_at.2 ∙ first_ready)
 
     pub all_are : plan.first ++ steps_in plan.rounds ≡ all_steps
-    all_are = ok_same (plan.first ++ steps_in plan.rounds) all_steps (sym plan.are_asked ∙ asks)
+    all_are = same_ok (plan.first ++ steps_in plan.rounds) all_steps (sym plan.are_asked ∙ asks)
 
     pub rest_is : steps_in plan.rounds ≡ both.second.steps
-    rest_is = append_same first_steps (steps_in plan.rounds) both.second.steps (ap (λ (steps : List Step). steps ++ steps_in plan.rounds) (sym first_is) ∙ all_are)
+    rest_is = append_cancel_left first_steps (steps_in plan.rounds) both.second.steps (ap (λ (steps : List Step). steps ++ steps_in plan.rounds) (sym first_is) ∙ all_are)
 
     rows : rows_in plan.entry.1 plan.target.element ≡ 512
     rows = ap (λ (entry : Entry). rows_in entry.1 plan.target.element) entry_is ∙ ap (λ (target : Target). rows_in left target.element) target_is ∙ asked.rows_are disks loss
@@ -410,7 +393,7 @@ module _ {name : List ℕ} {disks : Disks} {guid : List ℕ} {loss : Loss} {sequ
 
     pub volume_is : plan.volume ≡ view_begun loss
     volume_is =
-        ok_same plan.volume (view_begun loss)
+        same_ok plan.volume (view_begun loss)
         (sym plan.is_view
         ∙ ap (λ (config : Configuration). view_of config plan.entry.0 without.seats) config_there
         ∙ ap (λ (entry : Entry). view_of has_begun entry.0 without.seats) entry_is
@@ -419,7 +402,7 @@ module _ {name : List ℕ} {disks : Disks} {guid : List ℕ} {loss : Loss} {sequ
 
     part_is : part (places_begun loss) ≡ plan.is_out.part
     part_is =
-        some_same (part (places_begun loss)) plan.is_out.part
+        same_Some (part (places_begun loss)) plan.is_out.part
         (ap (λ (volume : Volume). slice_get volume.parts 0) (sym volume_is) ∙ ap (λ (target : Target). slice_get plan.volume.parts target.element) (sym target_is) ∙ plan.is_out.is_target.is_part)
 
     pub fill_cost : sectors_from plan.is_out.part.shape (first_row plan) ≡ 4096

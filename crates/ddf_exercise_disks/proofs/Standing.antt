@@ -1,6 +1,6 @@
 -- A change of the group, where nothing refuses it and no slot of a seat fails.
-use Rattle.std.proofs.Common.{◌≡◌, ◌∙◌, ◌⊎◌, ℕ, suc, ◌+◌, ◌*◌, ◌^◌, ◌<◌, ◌≤◌, Bool, false, List, [], ◌∷◌, ◌++◌, length, Option, Some, None, Result, Ok, Err, refl, sym, ap, subst, inl, inr, ⊎_elim, arith}
-use Rattle.std.specs.Prelude.{IsTrue, slice_index, slice_index_or, if◌then◌else◌}
+use Rattle.std.proofs.Common.{◌≡◌, ◌∙◌, ◌⊎◌, ℕ, suc, ◌+◌, ◌*◌, ◌^◌, ◌<◌, ◌≤◌, Bool, false, List, [], ◌∷◌, ◌++◌, length, Option, Some, Result, Ok, Err, refl, sym, ap, subst, inl, inr, ⊎_elim, arith}
+use Rattle.std.specs.Prelude.{IsTrue, slice_index, slice_index_or}
 use Rattle.std.specs.List.{AllByRecursion, sum_by}
 use Rattle.std.proofs.lemmas.List.Sums.{sum_by-cons}
 use Rattle.std.proofs.Math.Nat.{mul-le-mul_left}
@@ -8,10 +8,8 @@ use Rattle.ddf_bytes.specs.Streams.{SinkState}
 use Rattle.ddf_bay.specs.Memory.{disks_of, state_of}
 use Rattle.ddf_bay.specs.Moments.{GoesOn}
 use Rattle.ddf_bay.specs.ReadsOnly.{LookFailed, SlotRose}
-use Rattle.ddf_bay.specs.State.{BayState}
 use Rattle.ddf_bay.specs.declared.memory.MemoryBay.{MemoryBay}
 use Rattle.ddf_copy.specs.declared.newest_copy.Newest.{Newest}
-use Rattle.ddf_copy.specs.Copies.{newest_at}
 use Rattle.ddf_config.specs.declared.seat.Seat.{Seat}
 use Rattle.ddf_config.specs.Configuration.{Configuration}
 use Rattle.ddf_plan.specs.declared.change.Change.{Change}
@@ -38,28 +36,20 @@ use Rattle.ddf_group_commands.specs.Written.{AreWritten}
 use Rattle.ddf_uncut_group.specs.Asking.{AreNext, AreReadiedTo}
 use Rattle.ddf_uncut_group.specs.Plain.{ArePlain, IsPlain}
 use Rattle.ddf_uncut_group.specs.Settled.{group_behind, newest_held}
-use Rattle.ddf_uncut_group.proofs.AskingReadied.{all_asked, all_readied}
+use Rattle.ddf_uncut_group.proofs.AskingReadied.{all_asked, all_readied, seats_long}
 use Rattle.ddf_uncut_group.proofs.PlainCopies.{plain_sectors}
 use Rattle.ddf_uncut_group.proofs.StepsSettled.{steps_settled}
+use Rattle.ddf_uncut_group.proofs.SettledDone.{newest_is}
 use Rattle.ddf_exercise_disks.specs.Ending.{unused}
 use Rattle.ddf_exercise_disks.proofs.Healthy.{left_is, no_rise, stays_well}
 use Rattle.ddf_exercise_disks.specs.Well.{sizes_made}
 use Rattle.ddf_exercise_disks.specs.Standing.{StandsAt}
 use Rattle.ddf_exercise_disks.specs.Ending.{EndsWell}
 use Rattle.ddf_exercise_disks.proofs.Aside.{AreOnFive, steps_aside}
-use Rattle.ddf_exercise_disks.proofs.Outcomes.{change_ends}
-
-same_ok : (asked : Result (List Step) Failure) (steps others : List Step) → asked ≡ Ok steps → asked ≡ Ok others → others ≡ steps
-same_ok asked steps others are is = let both : ◌≡◌ {A = Result (List Step) Failure} (Ok steps) (Ok others) = sym are ∙ is in cc
+use Rattle.ddf_exercise_disks.proofs.Outcomes.{change_ends, same_steps}
 
 times_le : (k m n : ℕ) → m ≤ n → k * m ≤ k * n
 times_le k m n less = mul-le-mul_left k less
-
--- ---- newest copies
-
-newest_is : {D : Type 0} (disks : BayState D) (slot : ℕ) (left : List Bool) → newest_from disks slot left ≡ newest_held disks.sizes disks.held slot left
-newest_is disks slot [] = refl
-newest_is disks slot (out ∷ left) = ap (λ (others : List (Option Newest)). (if out then None else newest_at (slice_index disks.sizes slot) (disks.held slot)) ∷ others) (newest_is disks (suc slot) left)
 
 -- ---- sequence numbers and costs
 
@@ -79,10 +69,6 @@ disks_cost (disk ∷ disks) plain =
     let rest = disks_cost disks plain.1 in
     let both = sum_by-cons (λ (one : Seated). disk_sectors one.copy) disk disks in
     omega (arith, here, rest, both)
-
-seats_long : (disks : List Seated) → length (seats_in disks) ≡ length disks
-seats_long [] = refl
-seats_long (disk ∷ disks) = ap suc (seats_long disks)
 
 pub steps_cost : (seats : List Seat) (steps : List Step) → AllByRecursion (λ (step : Step). ArePlain sizes_made step.disks) steps
     → AllByRecursion (λ (step : Step). seats_in step.disks ≡ seats) steps → steps_sectors steps ≡ 83 * length seats * length steps
@@ -217,7 +203,7 @@ module _ (name : List ℕ) (total asked : ℕ) (out : List Bool) (config : Confi
 
         written_then : HasDone → AreWritten sizes_made (disks_of old).held readies.steps (disks_of new).held
         written_then changed =
-            let same : changed.steps ≡ readies.steps = same_ok (steps_of stands.group timestamp request) readies.steps changed.steps steps_are changed.are_asked in
+            let same : changed.steps ≡ readies.steps = same_steps (steps_of stands.group timestamp request) readies.steps changed.steps steps_are changed.are_asked in
             subst (λ (sizes : List ℕ). AreWritten sizes (disks_of old).held readies.steps (disks_of new).held) stands.well.sizes_are
             (subst (λ (steps : List Step). AreWritten (disks_of old).sizes (disks_of old).held steps (disks_of new).held) same (changed.are_written tt))
 

@@ -1,8 +1,9 @@
 -- How many sectors a write of blocks asks for, where each block has one cell.
-use Rattle.std.proofs.Common.{◌≡◌, ◌∙◌, ℕ, zero, suc, ◌+◌, ◌*◌, ◌≤◌, Bool, false, List, [], ◌∷◌, ◌++◌, Option, Some, None, refl, sym, ap, subst, arith, map, filter_map, length, slice_get}
+use Rattle.std.proofs.Common.{◌≡◌, ◌∙◌, ℕ, zero, suc, ◌+◌, ◌*◌, ◌≤◌, Bool, false, List, [], ◌∷◌, ◌++◌, Option, Some, None, refl, sym, subst, arith, map, filter_map, length, slice_get}
 use Rattle.std.specs.Prelude.{if◌then◌else◌}
 use Rattle.std.specs.List.{cons_option, flat_map, range_with_len, sum_by}
 use Rattle.std.proofs.lemmas.List.Sums.{sum_by-cons}
+use Rattle.std.proofs.lemmas.List.FromFn.{length-range_with_len}
 use Rattle.ddf_primary.proofs.Copies.{few_copies}
 use Rattle.ddf_secondary.specs.Spots.{spots}
 use Rattle.ddf_secondary.specs.declared.spot.Spot.{Spot}
@@ -72,10 +73,6 @@ cells_few v few (block ∷ blocks) =
     let sum = sum_by-cons (λ one. length (copies v one)) block blocks in
     omega (arith, here, rest, sum)
 
-range_long : (start count : ℕ) → length (range_with_len start count) ≡ count
-range_long start zero = refl
-range_long start (suc count) = ap suc (range_long (start + 1) count)
-
 -- ---- the array of an exercise
 
 single_on : (is_marked : Bool) (turn : Turn) → AreSingle (view_at turn is_marked).parts
@@ -89,6 +86,6 @@ parity_count turn is_marked count = let e : row_cells (view_at turn is_marked) c
 pub write_few : (turn : Turn) (is_marked : Bool) (start count : ℕ) → copy_cells (view_at turn is_marked) start count + row_cells (view_at turn is_marked) count ≤ 2 * count
 write_few turn is_marked start count =
     let blocks = cells_few (view_at turn is_marked) (block_few (view_at turn is_marked) refl (single_on is_marked turn)) (range_with_len start count) in
-    let long = range_long start count in
+    let long = length-range_with_len start count in
     let parity = parity_count turn is_marked count in
     omega (arith, blocks, long, parity)

@@ -1,8 +1,9 @@
 -- A write of blocks, where nothing refuses it and no slot of a seat fails.
-use Rattle.std.proofs.Common.{◌≡◌, ◌∙◌, ◌⊎◌, ℕ, ◌+◌, ◌*◌, ◌^◌, ◌<◌, ◌≤◌, Bool, true, false, List, [], ◌∷◌, ◌++◌, length, replicate, Option, Some, Result, Ok, refl, sym, ap, subst, inl, inr, ⊎_elim, arith}
+use Rattle.std.proofs.Common.{◌≡◌, ◌∙◌, ◌⊎◌, ℕ, ◌+◌, ◌*◌, ◌^◌, ◌<◌, ◌≤◌, Bool, true, false, List, [], ◌∷◌, ◌++◌, length, replicate, Some, Result, Ok, refl, sym, ap, subst, inl, inr, ⊎_elim, arith}
 use Rattle.std.specs.Prelude.{slice_index_or}
 use Rattle.std.proofs.Math.Nat.{mul-le-mul_left}
-use Rattle.std.proofs.lemmas.List.{length-replicate}
+use Rattle.std.proofs.lemmas.List.{length-replicate, append_cancel_left}
+use Rattle.ddf_lemmas.proofs.Options.{same_ok_value, same_some}
 use Rattle.ddf_bytes.specs.Streams.{SinkState, SourceState}
 use Rattle.ddf_bay.specs.Memory.{disks_of, state_of}
 use Rattle.ddf_bay.specs.Moments.{GoesOn}
@@ -44,6 +45,7 @@ use Rattle.ddf_write_commands.specs.Planned.{Entry, IsPlanned}
 use Rattle.ddf_write_commands.specs.Worked.{AreBlocksDone}
 use Rattle.ddf_write_commands.specs.Write.{CostsOfWriting, IsWriteDone, IsWriteIn, IsWriteTold, Outcome, write_request, writing}
 use Rattle.ddf_write_commands.specs.Write.Outcome.{Broken, NotRead, Short, Taken, Unfit}
+use Rattle.ddf_rebuild_command.proofs.Writings.{last_then}
 use Rattle.ddf_uncut_group.specs.Asking.{AreBothReadied, AreNext}
 use Rattle.ddf_uncut_group.specs.Blocks.{LeavesRecords}
 use Rattle.ddf_uncut_group.specs.Settled.{AreSettledAs, group_behind}
@@ -74,15 +76,9 @@ use Rattle.ddf_exercise_disks.proofs.WritingBytes.{block_filled, rewritten, sect
 use Rattle.ddf_exercise_disks.proofs.WritingCosts.{write_few}
 use Rattle.ddf_exercise_disks.proofs.WritingImage.{holds_behind}
 use Rattle.ddf_exercise_disks.proofs.Next.{makes_next}
-use Rattle.ddf_exercise_disks.proofs.WritingRoom.{behind_is, cell_floor, last_of, marking_is, others_are, place_seat, room_at, sectors_of_both, view_whole}
+use Rattle.ddf_exercise_disks.proofs.WritingRoom.{behind_is, cell_floor, marking_is, place_seat, room_at, sectors_of_both, view_whole}
 
 -- ---- results
-
-same_some : {X : Type 0} (found : Option X) (one other : X) → found ≡ Some one → found ≡ Some other → one ≡ other
-same_some {X = X} found one other is at = let both : ◌≡◌ {A = Option X} (Some one) (Some other) = sym is ∙ at in cc
-
-same_ok : {X E : Type 0} (found : Result X E) (one other : X) → found ≡ Ok one → found ≡ Ok other → one ≡ other
-same_ok {X = X} {E = E} found one other is at = let both : ◌≡◌ {A = Result X E} (Ok one) (Ok other) = sym is ∙ at in cc
 
 memory_or : (outcome : Outcome) → (outcome ≡ Unfit Memory) ⊎ (outcome ≡ Unfit Memory → ⊥)
 memory_or (Taken sectors worked) = inr (λ is. cc)
@@ -197,7 +193,7 @@ module _ (name : List ℕ) (total asked : ℕ) (out : List Bool) (disks : Disks)
 
   sequence_is : last_sequence group.config.sequence steps ≡ sequence + 2
   sequence_is =
-      last_of group.config.sequence both.first.steps both.second.steps
+      last_then group.config.sequence both.first.steps both.second.steps
       ∙ ap (λ (number : ℕ). last_sequence number both.second.steps) (last_is group both.first.steps)
       ∙ last_is marked_group both.second.steps
       ∙ ap (λ (some : Configuration). some.sequence) both.second.is_last
@@ -212,23 +208,23 @@ module _ (name : List ℕ) (total asked : ℕ) (out : List Bool) (disks : Disks)
 
     first_are : plan.first ≡ both.first.steps
     first_are =
-        same_ok (readied group (Mark guid ∷ []) timestamp) plan.first both.first.steps
+        same_ok_value (readied group (Mark guid ∷ []) timestamp) plan.first both.first.steps
         (sym
         (ap (λ (entry : Entry). readied group (marking entry) timestamp) entry_is ∙ ap (λ (changes : List Change). readied group changes timestamp) (marking_is disks guid turn 0 2))
         ∙ plan.are_first) both.first.are_readied
 
     all_are : plan.first ++ plan.last ≡ steps
-    all_are = same_ok (steps_of group timestamp asking) (plan.first ++ plan.last) steps plan.are_asked steps_are
+    all_are = same_ok_value (steps_of group timestamp asking) (plan.first ++ plan.last) steps plan.are_asked steps_are
 
     last_are : plan.last ≡ both.second.steps
-    last_are = others_are both.first.steps plan.last both.second.steps (sym (ap (λ (first : List Step). first ++ plan.last) first_are) ∙ all_are)
+    last_are = append_cancel_left both.first.steps plan.last both.second.steps (sym (ap (λ (first : List Step). first ++ plan.last) first_are) ∙ all_are)
 
     config_is : config_behind group.config plan.first ≡ middle
     config_is = ap (λ (first : List Step). config_behind group.config first) first_are ∙ behind_is group both.first.steps ∙ both.first.is_last
 
     volume_is : plan.volume ≡ view_at turn true
     volume_is =
-        same_ok (view_of middle guid seats) plan.volume (view_at turn true)
+        same_ok_value (view_of middle guid seats) plan.volume (view_at turn true)
         (sym
         (ap (λ (some : Configuration). view_of some plan.entry.0 group.seats) config_is
         ∙ ap (λ (entry : Entry). view_of middle entry.0 group.seats) entry_is

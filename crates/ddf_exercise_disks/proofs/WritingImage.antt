@@ -1,5 +1,6 @@
 -- What the blocks of an array hold behind a write between the steps of its group, by what the disks hold below the records alone.
-use Rattle.std.proofs.Common.{◌≡◌, ◌∙◌, inl, ℕ, ◌+◌, ◌<◌, Bool, List, Some, sym, subst, length}
+use Rattle.std.proofs.Common.{◌≡◌, ◌∙◌, inl, ℕ, ◌+◌, ◌<◌, Bool, List, sym, subst, length}
+use Rattle.ddf_lemmas.proofs.Options.{some_is}
 use Rattle.ddf_bay.specs.Sectors.{Image}
 use Rattle.ddf_array.specs.declared.part.Part.{Part}
 use Rattle.ddf_array.specs.declared.site.Site.{Site}
@@ -19,9 +20,6 @@ use Rattle.ddf_uncut_data.specs.Whole.{IsWhole}
 use Rattle.ddf_uncut_data.proofs.Held.{holds_same}
 use Rattle.ddf_uncut_data.proofs.Write.{holds_written}
 use Rattle.ddf_exercise_disks.proofs.Clip.{IsSameLow, LiesBelow, alike_low, clip, clip_gets, clip_low, clip_sectors}
-
-some_is : {X : Type 0} {a b : X} → Some a ≡ Some b → a ≡ b
-some_is e = cc
 
 -- the sector of a touched row lies in its element
 touched_below : (w : Volume) → IsVolume w → (start count element sector : ℕ) (part : Part) (one : Site) → IsParityAt w start count element sector part one → sector < part.shape.blocks

@@ -18,7 +18,6 @@ use Rattle.ddf_steps.specs.Ready.{group_after}
 use Rattle.ddf_steps.specs.Steps.{Step}
 use Rattle.ddf_read.specs.Reading.{IsOn}
 use Rattle.ddf_history_steps.specs.BlockFloors.{floor_in}
-use Rattle.ddf_group_commands.specs.Change.{last_sequence}
 use Rattle.ddf_group_commands.specs.Costs.{steps_sectors}
 use Rattle.ddf_write_commands.specs.Around.{config_behind, marking}
 use Rattle.ddf_uncut_group.specs.Plain.{HasRoom}
@@ -64,17 +63,9 @@ pub behind_is : (group : GroupValue) (steps : List Step) → config_behind group
 behind_is group [] = refl
 behind_is group (step ∷ steps) = behind_is (group_after group step) steps
 
-pub last_of : (sequence : ℕ) (first others : List Step) → last_sequence sequence (first ++ others) ≡ last_sequence (last_sequence sequence first) others
-last_of sequence [] others = refl
-last_of sequence (step ∷ first) others = last_of step.config.sequence first others
-
 pub sectors_of_both : (first others : List Step) → steps_sectors (first ++ others) ≡ steps_sectors first + steps_sectors others
 sectors_of_both [] others = omega arith
 sectors_of_both (step ∷ first) others = let rest = sectors_of_both first others in omega (arith, rest)
-
-pub others_are : {X : Type 0} (first others last : List X) → first ++ others ≡ first ++ last → others ≡ last
-others_are [] others last same = same
-others_are (x ∷ first) others last same = others_are first others last (let rest : first ++ others ≡ first ++ last = cc in rest)
 
 -- ---- the places of the array
 
@@ -82,7 +73,7 @@ part_is : (turn : Turn) (is_marked : Bool) (element : ℕ) (one : Part) → slic
 part_is turn is_marked zero one at = let is : part (places_at turn) ≡ one = cc in ap (λ (p : Part). p.places) (sym is)
 part_is turn is_marked (suc element) one at = absurd cc
 
-place_at : (P : Place → Type 0) (places : List Place) → AllByRecursion P places → (position : ℕ) (place : Place) → slice_get places position ≡ Some place → P place
+pub place_at : (P : Place → Type 0) (places : List Place) → AllByRecursion P places → (position : ℕ) (place : Place) → slice_get places position ≡ Some place → P place
 place_at P [] all position place at = absurd cc
 place_at P (one ∷ places) all zero place at = let is : one ≡ place = cc in subst P is all.0
 place_at P (one ∷ places) all (suc position) place at = place_at P places all.1 position place at

@@ -1,6 +1,7 @@
 -- Disks in memory of the sizes of an exercise's, of which no call is listed to fail, through calls and losses.
-use Rattle.std.proofs.Common.{◌≡◌, ◌≢◌, ◌∙◌, ℕ, zero, suc, ◌<◌, Bool, true, false, List, [], ◌∷◌, length, None, refl, sym, ap, subst, arith}
-use Rattle.std.specs.Prelude.{slice_index, slice_index_or, slice_set}
+use Rattle.std.proofs.Common.{◌≡◌, ◌≢◌, ◌∙◌, ℕ, ◌<◌, false, List, [], length, None, sym, ap, subst, arith}
+use Rattle.std.specs.Prelude.{slice_index, slice_index_or}
+use Rattle.ddf_lemmas.proofs.Lists.{set_true_other}
 use Rattle.ddf_bay.specs.Memory.{MayBecome, MemoryState, disks_of, state_of, without}
 use Rattle.ddf_bay.specs.MemoryLaws.{becomes_start, told_earlier}
 use Rattle.ddf_bay.specs.Moments.{GoesOn}
@@ -40,14 +41,6 @@ module _ (old new : MemoryBay) (goes : GoesOn (disks_of old) (disks_of new)) whe
     sizes_are = (changes).same_sizes ∙ calm.sizes_are;
   }
 
--- A slot that isn't the one that was unplugged is as it was.
-set_other : (unplugged : List Bool) (slot s : ℕ) → s ≢ slot → slice_index_or (slice_set unplugged slot true) s false ≡ true → slice_index_or unplugged s false ≡ true
-set_other [] slot s apart is = is
-set_other (one ∷ others) zero zero apart is = absurd (apart refl)
-set_other (one ∷ others) zero (suc s) apart is = is
-set_other (one ∷ others) (suc slot) zero apart is = is
-set_other (one ∷ others) (suc slot) (suc s) apart is = set_other others slot s (λ same. apart (ap suc same)) is
-
 module _ (old new : MemoryBay) (slot : ℕ) (is : state_of new ≡ without (state_of old) slot) where
   pub told_still : (disks_of new).tells_left → (disks_of old).tells_left
   told_still told = let same = ap (λ (state : MemoryState). state.clock) is in omega (arith, same, told)
@@ -61,4 +54,4 @@ module _ (old new : MemoryBay) (slot : ℕ) (is : state_of new ≡ without (stat
 
   pub still_plugged : (kept : ℕ) → kept ≢ slot → ((disks_of old).gone kept → ⊥) → (disks_of new).gone kept → ⊥
   still_plugged kept apart plugged gone =
-      plugged (set_other (state_of old).unplugged slot kept apart (ap (λ (state : MemoryState). slice_index_or state.unplugged kept false) (sym is) ∙ gone))
+      plugged (set_true_other (state_of old).unplugged slot kept apart (ap (λ (state : MemoryState). slice_index_or state.unplugged kept false) (sym is) ∙ gone))

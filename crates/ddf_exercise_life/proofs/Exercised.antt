@@ -16,6 +16,7 @@ use Rattle.ddf_disk_commands.specs.Label.{IsToldLabel, IsTried as IsLabelTried}
 use Rattle.ddf_data_events.specs.Beginnings.{none_promised}
 use Rattle.ddf_data_events.specs.Moments.{Moment}
 use Rattle.ddf_data_group.specs.Grouped.{Promises}
+use Rattle.ddf_answer.proofs.Common.{no_failure}
 use Rattle.ddf_data_lives.specs.Standing.{Stands}
 use Rattle.ddf_data_lives.proofs.Standing.{label_stands}
 use Rattle.ddf_exercise_disks.specs.Ending.{unused}
@@ -29,7 +30,6 @@ use Rattle.ddf_exercise.specs.declared.steps.Step.TheVariants as steps
 use Rattle.ddf_exercise_life.specs.Lived.{HasLived, IsLived, later_steps, steps_behind}
 use Rattle.ddf_exercise_life.proofs.Calm.{IsCalm, calm_then, changes, told_before}
 use Rattle.ddf_exercise_life.proofs.Taken.{IsLater, WasDone, both_later, create_comes, go_on, lives_on, not_five, peeled, told_at, writes_later}
-use Rattle.ddf_exercise_life.proofs.Told.{no_failure}
 
 -- ---- its steps
 

@@ -15,35 +15,22 @@ use Rattle.ddf_words.specs.declared.command.Creation.{Creation}
 use Rattle.ddf_words.specs.declared.command.SpareWord.{SpareWord}
 use Rattle.ddf_words.specs.declared.command.Wish.TheVariants as wishes
 use Rattle.ddf_request.specs.NewArray.{new_array, new_array_guid, unfit}
-use Rattle.ddf_request.specs.Request.{change_for, create_change, if_fits, request_of, slots_named, spare_change, unless}
+use Rattle.ddf_request.specs.Request.{change_for, create_change, if_fits, request_of, slots_named, spare_change}
 use Rattle.ddf_request.specs.Request.{one as as_asked}
 use Rattle.ddf_request.specs.Slots.{reference_on, slot_refusals}
 use Rattle.ddf_request.specs.Spare.{use_of}
 use Rattle.ddf_answer.specs.declared.failure.Failure.{Failure}
-use Rattle.ddf_answer.specs.declared.failure.Failure.TheVariants.{Conflict, Disk, Memory, Refused, Split}
-use Rattle.ddf_answer.specs.Answers.{IsToldFailure}
 use Rattle.ddf_answer.specs.Call.{Answer}
+use Rattle.ddf_answer.proofs.Common.{no_failure}
 use Rattle.ddf_group_commands.specs.Change.{IsToldChange}
+use Rattle.ddf_group_commands.proofs.Requested.{change_of}
 use Rattle.ddf_exercise.specs.Taking.{counted}
 
 -- ---- statuses
 
-ends_other : (status number : ℕ) → 0 < number → (status ≡ number) ⊎ ((status ≡ 5) ⊎ (status ≡ 6)) → status ≡ 0 → ⊥
-ends_other status number some (inl is) zero = omega (arith, some, is, zero)
-ends_other status number some (inr (inl is)) zero = omega (arith, is, zero)
-ends_other status number some (inr (inr is)) zero = omega (arith, is, zero)
-
 pub closes_other : (status number : ℕ) → 0 < number → (status ≡ number) ⊎ (status ≡ 6) → status ≡ 0 → ⊥
 closes_other status number some (inl is) zero = omega (arith, some, is, zero)
 closes_other status number some (inr is) zero = omega (arith, is, zero)
-
--- A failure is told with another status.
-pub no_failure : (failure : Failure) (answer : Answer) → IsToldFailure failure answer → answer.status ≡ 0 → ⊥
-no_failure (Refused refusal) answer told zero = ends_other answer.status 1 (omega arith) told.ends zero
-no_failure (Disk slot) answer told zero = closes_other answer.status 3 (omega arith) told.ends zero
-no_failure (Conflict i j sequence differ) answer told zero = ends_other answer.status 4 (omega arith) told.ends zero
-no_failure (Split i j) answer told zero = ends_other answer.status 4 (omega arith) told.ends zero
-no_failure Memory answer told zero = let five = told.0 in omega (arith, five, zero)
 
 pub change_done : (outcome : Result ℕ Failure) (answer : Answer) → IsToldChange outcome answer → answer.status ≡ 0 → (sequence : ℕ) × (outcome ≡ Ok sequence)
 change_done (Ok sequence) answer told zero = (sequence, refl)
@@ -60,10 +47,6 @@ counted_done status as_it_should is = by (status == 6) (status == 0 && not as_it
 
 -- ---- what words for a change ask for
 
-unless_asked : (refusal : Option Refusal) (made : Result (Option Change) Refusal) (asked : Option Change) → unless refusal made ≡ Ok asked → made ≡ Ok asked
-unless_asked None made asked is = is
-unless_asked (Some refusal) made asked is = absurd cc
-
 one_asked : (made : Result Change Refusal) (asked : Option Change) → as_asked made ≡ Ok asked → (change : Change) × (made ≡ Ok change) × (asked ≡ Some change)
 one_asked (Ok change) asked is = (change, refl, let same : Some change ≡ asked = cc in sym same)
 one_asked (Err refusal) asked is = absurd cc
@@ -77,7 +60,7 @@ module _ (config : Configuration) (seats : List Seat) (linux : List ℕ) (stamp 
   pub creation_spares : (creation : Creation) (asked : Option Change) → request_of slots config seats linux stamp (wishes.Create creation) ≡ Ok asked → (change : Change) → asked ≡ Some change
       → is_among (lost_by change) reference ≡ false
   creation_spares creation asked is change named =
-      let made = unless_asked (first_refusal (slot_refusals slots seats (slots_named (wishes.Create creation)))) (change_for config seats linux stamp (wishes.Create creation)) asked is in
+      let made = change_of (first_refusal (slot_refusals slots seats (slots_named (wishes.Create creation)))) (change_for config seats linux stamp (wishes.Create creation)) asked is in
       let from = one_asked (create_change config seats linux stamp creation) asked made in
       subst Spares (some_same from.2 named) (by (unfit linux seats creation) from.0 from.1)
     where
@@ -89,7 +72,7 @@ module _ (config : Configuration) (seats : List Seat) (linux : List ℕ) (stamp 
   pub spare_spares : (slot : ℕ) (word : SpareWord) (asked : Option Change) → request_of slots config seats linux stamp (wishes.Spare slot word) ≡ Ok asked → (change : Change) → asked ≡ Some change
       → is_among (lost_by change) reference ≡ false
   spare_spares slot word asked is change named =
-      let made = unless_asked (first_refusal (slot_refusals slots seats (slots_named (wishes.Spare slot word)))) (change_for config seats linux stamp (wishes.Spare slot word)) asked is in
+      let made = change_of (first_refusal (slot_refusals slots seats (slots_named (wishes.Spare slot word)))) (change_for config seats linux stamp (wishes.Spare slot word)) asked is in
       let from = one_asked (spare_change (reference_on seats slot) (use_of config word)) asked made in
       subst Spares (some_same from.2 named) (by (use_of config word) from.0 from.1)
     where

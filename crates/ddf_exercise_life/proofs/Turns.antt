@@ -32,6 +32,7 @@ use Rattle.ddf_answer.specs.declared.failure.Failure.{Failure}
 use Rattle.ddf_answer.specs.declared.failure.Failure.TheVariants.{Memory, Refused}
 use Rattle.ddf_answer.specs.Answers.{failure_of}
 use Rattle.ddf_answer.specs.Call.{Answer, Work, input_of, work_of}
+use Rattle.ddf_answer.proofs.Common.{no_failure}
 use Rattle.ddf_group_commands.specs.Change.{HasChanged, IsChangedIn, Request, TakesGroup, is_done, steps_asked, steps_of}
 use Rattle.ddf_group_commands.specs.Requests.{IsWished, at_most_one, linux_members, request_for}
 use Rattle.ddf_write_commands.specs.Planned.{IsPlanned}
@@ -60,7 +61,7 @@ use Rattle.ddf_exercise.specs.declared.steps.Step.{Step}
 use Rattle.ddf_exercise.specs.declared.steps.Step.TheVariants as steps
 use Rattle.ddf_exercise.specs.declared.draws.Fill.{Fill}
 use Rattle.ddf_exercise_life.specs.Lived.{IsTurnOf}
-use Rattle.ddf_exercise_life.proofs.Told.{change_done, closes_other, creation_spares, no_failure, spare_spares}
+use Rattle.ddf_exercise_life.proofs.Told.{change_done, closes_other, creation_spares, spare_spares}
 
 not_ok : (sequence : ℕ) (failure : Failure) → ◌≡◌ {A = Result ℕ Failure} (Ok sequence) (Err failure) → ⊥
 not_ok sequence failure is = cc

@@ -8,7 +8,7 @@ use Rattle.ddf_group.specs.declared.shown.Shown.{Shown}
 use Rattle.ddf_group.specs.Names.{AreNamed, IsNamed}
 use Rattle.ddf_group.specs.Slots.{slot_at, view_in}
 
-named_at : (slots : List Shown) → AreNamed slots → (slot : ℕ) → IsNamed (slot_at slots slot)
+pub named_at : (slots : List Shown) → AreNamed slots → (slot : ℕ) → IsNamed (slot_at slots slot)
 named_at [] named slot = tt
 named_at (shown ∷ slots) named zero = named.0
 named_at (shown ∷ slots) named (suc slot) = named_at slots named.1 slot

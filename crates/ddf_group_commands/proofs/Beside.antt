@@ -31,7 +31,7 @@ beside_since old middle new slots reads beside =
     stops_then (stops_weaken reads.any_moment (λ image left s l other. left s l)) beside (λ image left s l other. reads.keeps s l (image s l) (left s l other))
 
 -- A slot that is no seat's isn't among slots of seats.
-not_among : (seats slots : List ℕ) → ((slot : ℕ) → IsOneOf slots slot → IsOneOf seats slot) → (s : ℕ) → is_slot seats s ≡ false → (place : ℕ) → slice_get slots place ≢ Some s
+pub not_among : (seats slots : List ℕ) → ((slot : ℕ) → IsOneOf slots slot → IsOneOf seats slot) → (s : ℕ) → is_slot seats s ≡ false → (place : ℕ) → slice_get slots place ≢ Some s
 not_among seats slots on s other place at =
     let one = on s (record { place = place; is_there = at }) in
     false≢true (sym other ∙ slot_is seats one.place s one.is_there)

@@ -5,20 +5,18 @@ use Rattle.std.proofs.lemmas.List.Sums.{sum_by-cons}
 use Rattle.std.proofs.lemmas.Map.Steps.{length-le_from_distinct_below}
 use Rattle.std.specs.Prelude.{IfSome, slice_get}
 use Rattle.std.specs.List.{AllByRecursion, IsDistinct, list_any}
+use Rattle.ddf_lemmas.proofs.Lists.{all_from, some_at_place}
 use Rattle.ddf_bay.specs.Moments.{Costs}
 use Rattle.ddf_bay.specs.State.{BayState}
-use Rattle.ddf_header.specs.declared.geometry.Geometry.{Geometry}
-use Rattle.ddf_header.specs.declared.geometry.Section.{Section}
-use Rattle.ddf_header.specs.Geometry.{section_of}
 use Rattle.ddf_config.specs.declared.seat.Seat.{Seat}
 use Rattle.ddf_copy.specs.declared.copy.DiskCopy.{DiskCopy}
-use Rattle.ddf_copy.specs.declared.raw.Raw.{Raw}
 use Rattle.ddf_copy.specs.declared.run.Run.{Run}
-use Rattle.ddf_copy.specs.Runs.{AreRunsOf, log_run, runs_at}
+use Rattle.ddf_copy.specs.Runs.{AreRunsOf}
 use Rattle.ddf_plan.specs.declared.change.Change.{Change}
 use Rattle.ddf_update.specs.declared.prepared.Prepared.{Prepared}
 use Rattle.ddf_update.specs.Group.{AreSlots}
 use Rattle.ddf_update.specs.Prepared.{all_calls, all_sectors, most_calls}
+use Rattle.ddf_update.proofs.Lies.{few_at}
 use Rattle.ddf_seats.specs.declared.seated.Seated.{Seated}
 use Rattle.ddf_recovery.specs.Committed.{WasReadied, next_slots, next_updates, recovery_slots, recovery_updates, updates_written}
 use Rattle.ddf_seats.specs.Group.{GroupValue}
@@ -29,22 +27,14 @@ use Rattle.ddf_seats.specs.Seated.{seated}
 use Rattle.ddf_steps.specs.Steps.{in_order}
 use Rattle.ddf_steps.specs.Trying.{AreFollowing, ArePrepared, Follows}
 use Rattle.ddf_seats.specs.Changing.{SlotsRise}
-use Rattle.ddf_seats.proofs.CommittedSeats.{get_there}
 use Rattle.ddf_group_commands.specs.GroupRead.{IsReadFrom}
 use Rattle.ddf_group_commands.proofs.Recovering.{first_lies, rest_lies, slots_there}
 
 -- ---- one update
 
-log_few : (section : Section) (sectors : List (List ℕ)) → length (log_run section sectors) ≤ 1
-log_few section [] = omega arith
-log_few section (sector ∷ sectors) = omega arith
-
-runs_few : (geometry : Geometry) (raw : Raw) → length (runs_at geometry raw) ≤ 6
-runs_few geometry raw = let log = log_few (section_of geometry 5) raw.bad_blocks in omega (arith, log)
-
 update_few : (copy : DiskCopy) (prepared : Prepared) → AreRunsOf copy prepared.runs → most_calls prepared ≤ 25
 update_few copy prepared are =
-    let few : length prepared.runs ≤ 6 = subst (λ (runs : List Run). length runs ≤ 6) (sym are.are_runs) (runs_few copy.header.geometry are.raw) in
+    let few : length prepared.runs ≤ 6 = subst (λ (runs : List Run). length runs ≤ 6) (sym are.are_runs) (few_at copy.header.geometry are.raw) in
     omega (arith, few)
 
 -- ---- several
@@ -61,7 +51,7 @@ pub prepared_few : (disks : List Seated) (updates : List Prepared) → ArePrepar
 prepared_few disks updates are = all_few updates (λ place update at.
     let within = below updates place update at in
     let counted = are.counted in
-    let disk = get_there disks place (omega (arith, within, counted)) in
+    let disk = some_at_place disks place (omega (arith, within, counted)) in
     update_few disk.0.copy update (are.each place disk.0 update disk.1 at).runs_are)
   where
     below : {X : Type 0} (xs : List X) (place : ℕ) (x : X) → slice_get xs place ≡ Some x → place < length xs
@@ -70,10 +60,6 @@ prepared_few disks updates are = all_few updates (λ place update at.
     below (one ∷ xs) (suc place) x at = let rest = below xs place x at in omega (arith, rest)
 
 -- ---- slots
-
-all_from : {X : Type 0} (P : X → Type 0) (xs : List X) → ((place : ℕ) (x : X) → slice_get xs place ≡ Some x → P x) → AllByRecursion P xs
-all_from P [] each = tt
-all_from P (x ∷ xs) each = (each 0 x refl, all_from P xs (λ place one at. each (suc place) one at))
 
 differ_from : (slots : List ℕ) → ((one other slot : ℕ) → slice_get slots one ≡ Some slot → slice_get slots other ≡ Some slot → one ≡ other) → IsDistinct eqb slots
 unfolding IsDistinct

@@ -2,6 +2,7 @@
 use Rattle.std.proofs.Common.{◌≡◌, ◌⊎◌, ℕ, true, List, [], ◌∷◌, ◌++◌, Option, Some, None, Result, Ok, refl, ap, sym, ◌∙◌, subst, inl, inr, ⊎_elim, arith}
 use Rattle.std.specs.Prelude.{slice_get}
 use Rattle.std.specs.Option.{option_to_list}
+use Rattle.ddf_lemmas.proofs.Lists.{in_map, some_at_place}
 use Rattle.ddf_bay.specs.Moments.{StopsLeave}
 use Rattle.ddf_bay.specs.ReadsOnly.{ReadsOnly}
 use Rattle.ddf_bay.specs.Sectors.{Image, IsLeft}
@@ -9,11 +10,10 @@ use Rattle.ddf_bay.specs.State.{BayState, size_of}
 use Rattle.ddf_bay.proofs.Steps.{stops_then, stops_weaken}
 use Rattle.ddf_copy.specs.declared.copy.DiskCopy.{DiskCopy}
 use Rattle.ddf_plan.specs.declared.change.Change.{Change}
-use Rattle.ddf_rewrite.proofs.Lists.{map_get}
 use Rattle.ddf_update.specs.Changes.{IsLeftChangingAll, MayChangeAll, SlotChange}
 use Rattle.ddf_update.specs.Group.{LieOnSlots}
 use Rattle.ddf_view.specs.View.{View, view_of}
-use Rattle.ddf_view.proofs.Finds.{place_there, place_within}
+use Rattle.ddf_view.proofs.Finds.{place_within}
 use Rattle.ddf_history.specs.Reading.{Shown, IsCopyOf}
 use Rattle.ddf_history.specs.Reading.Shown.{One}
 use Rattle.ddf_history.specs.Scenes.{scene_of}
@@ -124,7 +124,7 @@ module _ {D : Type 0} (start : BayState D) (one : ReadyStep) (seat : ℕ → Slo
   -- a slot that the step writes
   written_at : (place slot : ℕ) → slice_get slots place ≡ Some slot → (on : IsWrittenOn steps slot) × (slice_get (in_order one.step.disks) place ≡ Some on.disk)
   written_at place slot at =
-      let found = map_get (λ (disk : Seated). disk.seat.slot) (in_order one.step.disks) place slot at in
+      let found = in_map (λ (disk : Seated). disk.seat.slot) (in_order one.step.disks) place slot at in
       let from = order_from one.step.disks place found.0 found.1 in
       (record { number = number; step = one.step; is_step = is_step; place = from.0; disk = found.0; is_disk = from.1; on_slot = found.2 }, found.1)
 
@@ -137,7 +137,7 @@ module _ {D : Type 0} (start : BayState D) (one : ReadyStep) (seat : ℕ → Slo
   outside_here : (place slot l : ℕ) → slice_get slots place ≡ Some slot → is_slot slots slot ≡ true → (image slot l ≡ unwritten start slots image slot l) ⊎ IsStepsSector (size_of start slot) steps slot l
   outside_here place slot l at here =
       let within = place_within slots place slot at in
-      let update = place_there one.updates place (omega (arith, within, lies.counted)) in
+      let update = some_at_place one.updates place (omega (arith, within, lies.counted)) in
       let on = written_at place slot at in
       ⊎_elim
       (λ same. inl (same ∙ ap (λ (sector : ℕ → List ℕ). sector l) (sym (unwritten_here start slots image slot here))))

@@ -7,7 +7,7 @@ pub mod Outcomes
 pub mod ChangeEnds
 pub mod ShowEnds
 mod ToldGroup
-mod Requested
+pub mod Requested
 pub mod SeatReferences
 pub mod FewCalls
 pub mod Costs

@@ -5,6 +5,7 @@ use Rattle.ddf_bay.specs.State.{BayState}
 use Rattle.ddf_bay.specs.Moments.{StopsLeave}
 use Rattle.ddf_bay.specs.ReadsOnly.{ReadsOnly}
 use Rattle.ddf_bay.proofs.Looks.{reads_then}
+use Rattle.ddf_bay.proofs.Steps.{rose_since}
 use Rattle.ddf_config.specs.declared.refusal.Refusal.{Refusal}
 use Rattle.ddf_config.specs.declared.seat.Seat.{Seat}
 use Rattle.ddf_config.specs.Configuration.{Configuration}
@@ -38,7 +39,7 @@ use Rattle.ddf_group_commands.proofs.Beside.{beside_since, reads_beside}
 use Rattle.ddf_group_commands.proofs.Costs.{asked_since, none_cost}
 use Rattle.ddf_group_commands.proofs.Keeping.{reads_keep, since_entry}
 use Rattle.ddf_group_commands.proofs.LeftWriting.{leaves_since, reads_leave}
-use Rattle.ddf_answer.proofs.Rises.{look_still, rose_later}
+use Rattle.ddf_answer.proofs.Rises.{look_still}
 
 -- ---- which group was read
 
@@ -230,7 +231,7 @@ module _ {D : Type 0} (tells : Type 0) (old middle new : BayState D) (reads : Re
     are_asked = done.are_asked;
     is_seat = done.is_seat;
     there = rw reads.same_sizes at done.there;
-    rose = rose_later (old.failed_writes slot) (middle.failed_writes slot) (new.failed_writes slot) (writes_rise slot) done.rose;
+    rose = rose_since (old.failed_writes slot) (middle.failed_writes slot) (new.failed_writes slot) (writes_rise slot) done.rose;
   }
   changed_before group asked (Err Memory) done = reads_then reads done
   changed_before group asked (Err (Conflict i j sequence differ)) done = absurd done

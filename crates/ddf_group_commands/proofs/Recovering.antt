@@ -1,11 +1,12 @@
 -- A group that was read from disks, recovered and changed on them.
-use Rattle.std.proofs.Common.{◌≡◌, ℕ, ◌^◌, ◌<◌, ◌≤◌, Bool, true, false, List, [], ◌∷◌, length, Option, Some, None, Ok, refl, sym, ap, subst, ◌∙◌, ◌⊎◌, ⊎_elim, if◌then◌else◌}
+use Rattle.std.proofs.Common.{◌≡◌, ℕ, ◌^◌, ◌<◌, ◌≤◌, Bool, true, false, List, [], ◌∷◌, length, Option, Some, None, Ok, sym, ap, subst, ◌∙◌, ◌⊎◌, ⊎_elim, if◌then◌else◌}
 use Rattle.std.specs.Prelude.{IfSome, option_map}
+use Rattle.ddf_lemmas.proofs.Lists.{in_map, mapped_at}
 use Rattle.ddf_bytes.specs.Counts.{Rose}
 use Rattle.ddf_bay.specs.State.{BayState}
 use Rattle.ddf_config.specs.declared.seat.Seat.{Seat}
 use Rattle.ddf_plan.specs.declared.change.Change.{Change}
-use Rattle.ddf_rewrite.proofs.Lists.{all_at, get_map, map_get}
+use Rattle.ddf_rewrite.proofs.Lists.{all_at}
 use Rattle.ddf_update.specs.Changes.{AreChanged, MayChangeAll, SlotChange}
 use Rattle.ddf_update.specs.Group.{IsOneOf, LieOnSlots}
 use Rattle.ddf_seats.specs.declared.seated.Seated.{Seated}
@@ -26,6 +27,7 @@ use Rattle.ddf_seats.proofs.CommittedSeats.{seated_is}
 use Rattle.ddf_recovery.proofs.ReadiedParts.{are_tried}
 use Rattle.ddf_recovery.proofs.RecoveredGroup.{recovered_ready}
 use Rattle.ddf_recovery.proofs.RecoveryWritten.{may_recover, recovered_anchored, recovered_held, recovery_lies, recovery_on_seats}
+use Rattle.ddf_history_steps.proofs.RecoveringLossEnd.{slots_same}
 use Rattle.ddf_answer.specs.Call.{work_of}
 use Rattle.ddf_group_commands.specs.Change.{IsDoneTo, IsFaultOn, steps_or}
 use Rattle.ddf_group_commands.specs.GroupRead.{IsReadFrom}
@@ -33,10 +35,6 @@ use Rattle.ddf_group_commands.specs.Written.{AreWritten}
 use Rattle.ddf_group_commands.proofs.StepsWritten.{committed_written, few_steps, recovery_written, sequence_is, settled_still, steps_in}
 
 -- ---- the slots of seats
-
-slots_same : (disks : List Seated) → slots_of (seats_in disks) ≡ slots_in disks
-slots_same [] = refl
-slots_same (disk ∷ disks) = ap (λ (slots : List ℕ). disk.seat.slot ∷ slots) (slots_same disks)
 
 -- A slot of a seat behind a recovery is one of a seat before it, where the recovery writes to slots of seats.
 still_seat : (group : GroupValue) (next : Option ReadyStep) (slot : ℕ) → (IsOneOf (slots_written next) slot → IsOneOf (slots_of group.seats) slot)
@@ -47,9 +45,9 @@ still_seat group (Some one) slot on is = by (some group.absent) is
     by : (lost : Bool) → IsOneOf (slots_of (if lost then seats_in one.step.disks else group.seats)) slot → IsOneOf (slots_of group.seats) slot
     by true is =
         let at : IsOneOf (slots_in one.step.disks) slot = subst (λ (slots : List ℕ). IsOneOf slots slot) (slots_same one.step.disks) is in
-        let found = map_get (λ (disk : Seated). disk.seat.slot) one.step.disks at.place slot at.is_there in
+        let found = in_map (λ (disk : Seated). disk.seat.slot) one.step.disks at.place slot at.is_there in
         let ordered = order_at one.step.disks at.place found.0 found.1 in
-        on (record { place = ordered.0; is_there = get_map (λ (disk : Seated). disk.seat.slot) (in_order one.step.disks) ordered.0 found.0 ordered.1 ∙ ap Some found.2 })
+        on (record { place = ordered.0; is_there = mapped_at (λ (disk : Seated). disk.seat.slot) (in_order one.step.disks) ordered.0 found.0 ordered.1 ∙ ap Some found.2 })
     by false is = is
 
 -- The next step is written to slots of seats.
@@ -57,12 +55,12 @@ pub next_on_seat : (group : GroupValue) (steps : List ReadyStep) → AreRewritin
     → IsOneOf (next_slots (record { recovery = None; steps = steps })) slot → IsOneOf (slots_of group.seats) slot
 next_on_seat group [] rewrites slot is = let none : None ≡ Some slot = is.is_there in absurd cc
 next_on_seat group (one ∷ others) rewrites slot is =
-    let found = map_get (λ (disk : Seated). disk.seat.slot) (in_order one.step.disks) is.place slot is.is_there in
+    let found = in_map (λ (disk : Seated). disk.seat.slot) (in_order one.step.disks) is.place slot is.is_there in
     let from = order_from one.step.disks is.place found.0 found.1 in
     let disk = all_at (IsRewritten (seated group) one.step.config) one.step.disks from.0 found.0 rewrites.0 from.1 in
     let own = seated_is group disk.place disk.before disk.is_there in
     let same : disk.before.seat.slot ≡ slot = ap (λ (seat : Seat). seat.slot) (sym disk.same_seat) ∙ found.2 in
-    record { place = own.place; is_there = get_map (λ (seat : Seat). seat.slot) group.seats own.place disk.before.seat own.is_seat ∙ ap (λ (n : ℕ). Some n) same }
+    record { place = own.place; is_there = mapped_at (λ (seat : Seat). seat.slot) group.seats own.place disk.before.seat own.is_seat ∙ ap (λ (n : ℕ). Some n) same }
 
 -- ---- what was readied
 
@@ -111,7 +109,7 @@ module _ {D : Type 0} (tells : Type 0) (old : BayState D) (group : GroupValue) (
   fault_on : (new : BayState D) (slot : ℕ) → IsOneOf (slots_of group.seats) slot → Rose (old.failed_writes slot) (new.failed_writes slot)
       → IsFaultOn (work_of tells old new) group (steps_or (readied group changes timestamp)) slot
   fault_on new slot one rose =
-      let found = map_get (λ (seat : Seat). seat.slot) group.seats one.place slot one.is_there in
+      let found = in_map (λ (seat : Seat). seat.slot) group.seats one.place slot one.is_there in
       record {
         steps = steps;
         are_asked = ap steps_or was.is_readied;

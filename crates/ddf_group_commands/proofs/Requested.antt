@@ -53,7 +53,7 @@ wish_is (Create creation) fits = record { short = fits.short; few = few_of creat
 wish_is other fits = tt
 
 -- what is given where nothing refuses it before
-change_of : (refusal : Option Refusal) (asked : Result (Option Change) Refusal) (given : Option Change) → unless refusal asked ≡ Ok given → asked ≡ Ok given
+pub change_of : (refusal : Option Refusal) (asked : Result (Option Change) Refusal) (given : Option Change) → unless refusal asked ≡ Ok given → asked ≡ Ok given
 change_of None asked given is = is
 change_of (Some refusal) asked given is = absurd cc
 

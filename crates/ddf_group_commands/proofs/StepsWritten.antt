@@ -3,6 +3,7 @@ use Rattle.std.proofs.Common.{◌≡◌, ℕ, ◌<◌, ◌≤◌, Bool, true, fa
 use Rattle.std.proofs.Math.Path.{fun_ext}
 use Rattle.std.proofs.lemmas.Option.{slice_get_within}
 use Rattle.std.specs.Prelude.{IfSome, option_to_list, slice_get, slice_index}
+use Rattle.ddf_lemmas.proofs.Lists.{in_map, mapped_at, some_at_place}
 use Rattle.ddf_bay.specs.State.{BayState}
 use Rattle.ddf_bay.specs.Sectors.{Image}
 use Rattle.ddf_bay.specs.Moments.{Costs, IsSettled}
@@ -11,7 +12,6 @@ use Rattle.ddf_config.specs.Configuration.{Configuration}
 use Rattle.ddf_copy.specs.declared.copy.DiskCopy.{DiskCopy}
 use Rattle.ddf_plan.specs.declared.change.Change.{Change}
 use Rattle.ddf_plan.specs.Same.{is_step}
-use Rattle.ddf_rewrite.proofs.Lists.{get_map, map_get}
 use Rattle.ddf_update.specs.Changes.{AreChanged, MayChangeAll, SlotChange, anchor_after}
 use Rattle.ddf_update.specs.Prepared.{all_sectors}
 use Rattle.ddf_update.specs.Update.{AreBoth}
@@ -25,7 +25,6 @@ use Rattle.ddf_seats.specs.Seated.{slots_in}
 use Rattle.ddf_steps.specs.Steps.{Step, in_order, step_of}
 use Rattle.ddf_steps.specs.Trying.{AreFollowing, Follows}
 use Rattle.ddf_steps.proofs.CommittedLevels.{slot_or_none}
-use Rattle.ddf_seats.proofs.CommittedSeats.{get_there}
 use Rattle.ddf_steps.proofs.Ordered.{order_at, order_from}
 use Rattle.ddf_group_commands.specs.Change.{last_sequence}
 use Rattle.ddf_group_commands.specs.Written.{AreWritten, HasCopy, IsWritten}
@@ -63,10 +62,10 @@ module _ {D : Type 0} (old new : BayState D) (disks : List Seated) (one : ReadyS
       let ordered = order_at one.step.disks given disk is_given in
       let place = ordered.0 in
       let at = ordered.1 in
-      let here = get_map (λ (other : Seated). other.seat.slot) (in_order one.step.disks) place disk at in
+      let here = mapped_at (λ (other : Seated). other.seat.slot) (in_order one.step.disks) place disk at in
       let within = slice_get_within (in_order one.step.disks) place disk at in
       let counted = follows.are_prepared.counted in
-      let update = get_there one.updates place (omega (arith, within, counted)) in
+      let update = some_at_place one.updates place (omega (arith, within, counted)) in
       let is = changed.have_changed place slot update.0 (slice_get_within (slots_in (in_order one.step.disks)) place slot here) here update.1 in
       record {
         anchor = anchor_after (seat place);
@@ -83,7 +82,7 @@ module _ {D : Type 0} (old new : BayState D) (disks : List Seated) (one : ReadyS
     have_copies = copy_of;
     others = λ slot l beside.
         changed.others slot l (λ place below at.
-        let found = map_get (λ (other : Seated). other.seat.slot) (in_order one.step.disks) place slot at in
+        let found = in_map (λ (other : Seated). other.seat.slot) (in_order one.step.disks) place slot at in
         let from = order_from one.step.disks place found.0 found.1 in
         beside from.0 found.0 from.1 found.2);
   }
@@ -117,12 +116,12 @@ settled_still middle new [] seat changed slot settled l bytes may =
     ∙ sym (changed.others slot l (λ place below at. absurd (omega (arith, below))))
 settled_still middle new (one ∷ others) seat changed slot settled l bytes may = elim (slot_or_none (in_order one.step.disks) slot) [
   | inl found ↦
-      let here = get_map (λ (disk : Seated). disk.seat.slot) (in_order one.step.disks) found.0 found.1 found.2 in
+      let here = mapped_at (λ (disk : Seated). disk.seat.slot) (in_order one.step.disks) found.0 found.1 found.2 in
       subst (λ (n : ℕ). IsSettled new.may_hold new.held n) (sym found.3)
       (changed.are_settled found.0 found.1.seat.slot (slice_get_within (slots_in (in_order one.step.disks)) found.0 found.1.seat.slot here) here) l bytes may
   | inr none ↦
       let beside = λ (place : ℕ) (below : place < length (slots_in (in_order one.step.disks))) (at : slice_get (slots_in (in_order one.step.disks)) place ≡ Some slot).
-      let found = map_get (λ (disk : Seated). disk.seat.slot) (in_order one.step.disks) place slot at in
+      let found = in_map (λ (disk : Seated). disk.seat.slot) (in_order one.step.disks) place slot at in
       none place found.0 found.1 (sym found.2) in
       settled l bytes (changed.others_left slot l bytes beside may) ∙ sym (changed.others slot l beside)
 ]

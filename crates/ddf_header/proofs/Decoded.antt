@@ -6,13 +6,15 @@ use Rattle.std.specs.Str.{bytes_eq}
 use Rattle.std.specs.Int.{w64}
 use Rattle.std.proofs.lemmas.Bool.{eqb-true}
 use Rattle.std.proofs.lemmas.Slice.Eq.{bytes_eq-Decides}
+use Rattle.ddf_lemmas.proofs.Options.{none_from_map}
 use Rattle.ddf_bytes.specs.Bytes.{bytes_at, number_at}
 use Rattle.ddf_bytes.specs.Choices.{ok_unless, when}
-use Rattle.ddf_bytes.proofs.Nones.{none_first, none_map, none_when_not}
+use Rattle.ddf_bytes.proofs.Nones.{none_first, none_when_not}
 use Rattle.ddf_seal.specs.Seal.{seal_check}
 use Rattle.ddf_seal.specs.Unread.{AreBytes}
 use Rattle.ddf_seal.specs.declared.sealing.SealFault.{SealFault}
 use Rattle.ddf_seal.proofs.Seals.{sealed_from_check, check_from_sealed}
+use Rattle.ddf_seal.proofs.Common.{none_err}
 use Rattle.ddf_header.specs.declared.kind.HeaderKind.{HeaderKind}
 use Rattle.ddf_header.specs.declared.kind.Revision.{Revision}
 use Rattle.ddf_header.specs.declared.kind.Revision.TheVariants.{R100, R120, R200}
@@ -35,15 +37,11 @@ use Rattle.ddf_header.proofs.Sections.{numbers_of_sections, sections_from_number
 sealed : Result Unit SealFault
 sealed = Ok tt
 
-none_err : (r : Result Unit SealFault) → result_err r ≡ None → r ≡ Ok tt
-none_err (Ok x) h = refl
-none_err (Err e) h = absurd cc
-
 some_revision : (o : Option Revision) → when (is_none o) faults.Revision ≡ None → o ≡ Some (unwrap_or o R100)
 some_revision None h = absurd cc
 some_revision (Some r) h = refl
 
-ok_parts : (o : Option HeaderFault) (x y : Header) → ok_unless o x ≡ Ok y → (o ≡ None) × (x ≡ y)
+pub ok_parts : (o : Option HeaderFault) (x y : Header) → ok_unless o x ≡ Ok y → (o ≡ None) × (x ≡ y)
 ok_parts None x y h = (refl, cc)
 ok_parts (Some e) x y h = absurd cc
 
@@ -57,7 +55,7 @@ conditions kind sector h =
         before = record {
           before = record {
             before = record {
-              before = record { seal_stands = none_err seal (none_map faults.Seal (result_err seal) none.0) };
+              before = record { seal_stands = none_err seal (none_from_map faults.Seal (result_err seal) none.0) };
               revision_stands = some_revision (revision_of (bytes_at sector REVISION_AT 8)) none.1.0;
             };
             flag_stands = none_when_not (is_open_flag kind (slice_index sector OPEN_FLAG_AT)) (faults.OpenFlag (slice_index sector OPEN_FLAG_AT)) none.1.1.0;
@@ -66,7 +64,7 @@ conditions kind sector h =
         };
         kind_stands = eqb-true (slice_index sector KIND_AT) (kind_code kind) (none_when_not (eqb (slice_index sector KIND_AT) (kind_code kind)) (faults.Kind (slice_index sector KIND_AT)) none.1.1.1.1.0);
       },
-      none_map faults.Geometry (geometry_fault (geometry_at sector)) none.1.1.1.1.1.0,
+      none_from_map faults.Geometry (geometry_fault (geometry_at sector)) none.1.1.1.1.1.0,
     )
 
 -- ---- revisions

@@ -3,3 +3,4 @@ pub mod Sections
 pub mod Sound
 pub mod Encoded
 pub mod Decoded
+pub mod Common

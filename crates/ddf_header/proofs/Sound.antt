@@ -2,9 +2,10 @@
 use Rattle.std.proofs.Common.{◌≡◌, ℕ, zero, suc, ◌+◌, ◌*◌, Bool, true, false, cond, eqb, ltb, ◌||◌, List, [], ◌∷◌, take, Option, Some, None, refl, sym, ◌∙◌, ap, zero-add, arith, inl, inr}
 use Rattle.std.specs.Prelude.{slice_get}
 use Rattle.std.specs.List.{list_any, enumerate_from, position_from}
-use Rattle.std.proofs.lemmas.Bool.{cases_eq, eq-eqb, ne_eqb, ltb-false, eqb-true, eqb-false}
+use Rattle.std.proofs.lemmas.Bool.{cases_eq, eq-eqb, ne_eqb, ltb-false, eqb-true, eqb-false, or_parts}
 use Rattle.std.proofs.lemmas.Iterator.Adapters.{position_from-zero}
-use Rattle.ddf_bytes.proofs.Nones.{none_first, none_map, none_when_not}
+use Rattle.ddf_lemmas.proofs.Options.{none_from_map}
+use Rattle.ddf_bytes.proofs.Nones.{none_first, none_when_not}
 use Rattle.ddf_header.specs.declared.geometry.Section.{Section}
 use Rattle.ddf_header.specs.declared.geometry.Geometry.{Geometry}
 use Rattle.ddf_header.specs.declared.layout.TheConstants.{MAX_DISKS_AT, MAX_ARRAYS_AT, RECORD_LENGTH_AT, MAX_MEMBERS_AT, SECTIONS_AT}
@@ -26,7 +27,7 @@ rest_none : (b : Bool) (n : ℕ) (rest : Option ℕ) → cond b (Some n) rest �
 rest_none true n rest h = absurd cc
 rest_none false n rest h = h
 
-none_passes : {X : Type 0} (p : X → Bool) (n : ℕ) (xs : List X) (i : ℕ) (x : X) → position_from p n xs ≡ None → slice_get xs i ≡ Some x → p x ≡ false
+pub none_passes : {X : Type 0} (p : X → Bool) (n : ℕ) (xs : List X) (i : ℕ) (x : X) → position_from p n xs ≡ None → slice_get xs i ≡ Some x → p x ≡ false
 none_passes p n [] i x h at = absurd cc
 none_passes p n (y ∷ ys) zero x h at = ap p (sym (some_is y x at)) ∙ first_fails (p y) n (position_from p (n + 1) ys) h
 none_passes p n (y ∷ ys) (suc i) x h at = none_passes p (n + 1) ys i x (rest_none (p y) n (position_from p (n + 1) ys) h) at
@@ -41,10 +42,6 @@ numbered n (y ∷ ys) (suc i) x at =
     numbered (n + 1) ys i x at ∙ ap (λ (m : ℕ). Some (m, x)) k
 
 -- ---- a section that is not bad
-
-neither : (a b : Bool) → (a || b) ≡ false → (a ≡ false) × (b ≡ false)
-neither true b h = absurd cc
-neither false b h = (refl, h)
 
 good_section : (geometry : Geometry) (index : ℕ) (section : Section) → is_bad_section geometry index section ≡ false → IsGoodSection geometry index section
 unfolding is_bad_section is_short
@@ -64,9 +61,9 @@ good_section geometry index section h = elim (cases_eq section.length 0) [
       let long = is_long index section in
       let meeting = list_any (meets section) (take index geometry.sections) in
       let parts : (behind || short || long || meeting) ≡ false = rw (ne_eqb section.length 0 present) at h in
-      let last = neither (behind || short || long) meeting parts in
-      let third = neither (behind || short) long last.0 in
-      let second = neither behind short third.0 in
+      let last = or_parts (behind || short || long) meeting parts in
+      let third = or_parts (behind || short) long last.0 in
+      let second = or_parts behind short third.0 in
       let apart_from_header = eqb-false section.offset 0 second.0 in
       record {
         needed = λ lt. omega arith;
@@ -85,7 +82,7 @@ unfolding geometry_fault
 sound geometry h =
     let none = none_first (geometry_faults_of geometry) h in
     let no_section : position_from (test geometry) 0 (enumerate_from 0 geometry.sections) ≡ None =
-    sym (position_from-zero (test geometry) (enumerate_from 0 geometry.sections)) ∙ none_map (λ (index : ℕ). SECTIONS_AT + 8 * index) (bad_section geometry) none.1.1.1.1.0 in
+    sym (position_from-zero (test geometry) (enumerate_from 0 geometry.sections)) ∙ none_from_map (λ (index : ℕ). SECTIONS_AT + 8 * index) (bad_section geometry) none.1.1.1.1.0 in
     record {
       disks_known = none_when_not (is_maximum geometry.max_disks) MAX_DISKS_AT none.0;
       arrays_known = none_when_not (is_maximum geometry.max_arrays) MAX_ARRAYS_AT none.1.0;

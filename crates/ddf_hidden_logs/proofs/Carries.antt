@@ -1,13 +1,11 @@
 -- The mask of a disk whose copies carry one log.
-use Rattle.std.proofs.Common.{◌≡◌, ◌⊎◌, ◌∙◌, ℕ, ◌-◌, Bool, true, false, List, [], ◌∷◌, length, Option, Some, None, Result, Ok, Err, refl, sym, ap, inl, inr, arith, eq-eqb}
+use Rattle.std.proofs.Common.{◌≡◌, ◌⊎◌, ◌∙◌, ℕ, ◌-◌, Bool, true, false, List, length, Option, Some, None, Result, Ok, Err, refl, sym, ap, inl, inr, arith, eq-eqb}
 use Rattle.std.specs.Prelude.{is_some, max, nat_lt, if◌then◌else◌}
-use Rattle.std.specs.Cmp.Lexicographic.{pointwise}
 use Rattle.std.specs.Option.{option_and_then, option_map_or}
 use Rattle.std.proofs.lemmas.Bool.{and_from}
 use Rattle.ddf_header.specs.declared.geometry.Geometry.{Geometry}
 use Rattle.ddf_header.specs.declared.reading.Header.{Header}
 use Rattle.ddf_header.specs.Geometry.{section_of}
-use Rattle.ddf_tables.specs.declared.bad_blocks.BadBlock.{BadBlock}
 use Rattle.ddf_tables.specs.BadBlocks.{LogValue}
 use Rattle.ddf_copy.specs.declared.copy.DiskCopy.{DiskCopy}
 use Rattle.ddf_copy.specs.declared.fault.CopyFault.{CopyFault}
@@ -17,8 +15,8 @@ use Rattle.ddf_copy.specs.Copies.{are_level, copy_of, newest_in, standing_copy}
 use Rattle.ddf_copy.proofs.Places.{alike}
 use Rattle.ddf_logs.specs.Kept.{kept_under}
 use Rattle.ddf_logs.specs.Lasting.{CarryLogOf}
-use Rattle.ddf_logs.specs.Logs.{carry_one, configured_size, entries_of, fitting, fitting_by, honoured, newer, same_block, same_logs}
-use Rattle.ddf_logs.proofs.Carried.{logs_own}
+use Rattle.ddf_logs.specs.Logs.{carry_one, configured_size, entries_of, fitting, fitting_by, honoured, newer, same_logs}
+use Rattle.ddf_logs.proofs.Carried.{logs_own, blocks_same, there_is}
 use Rattle.ddf_logs.proofs.Standing.{standing_newer}
 use Rattle.ddf_hidden_logs.specs.Lasting.{CarryLog}
 use Rattle.ddf_hidden_logs.specs.Recounts.{mask_by, mask_if, mask_under}
@@ -26,13 +24,6 @@ use Rattle.ddf_hidden_logs.specs.Shown.{mask_at}
 use Rattle.ddf_hidden_logs.proofs.Anchored.{mask_is}
 
 -- ---- a log is the same as itself
-
-block_same : (block : BadBlock) → same_block block block ≡ true
-block_same block = and_from _ _ (and_from _ _ (eq-eqb block.start block.start refl) (eq-eqb block.spare block.spare refl)) (eq-eqb block.count block.count refl)
-
-blocks_same : (blocks : List BadBlock) → pointwise same_block blocks blocks ≡ true
-blocks_same [] = refl
-blocks_same (block ∷ blocks) = and_from _ _ (block_same block) (blocks_same blocks)
 
 log_same : (log : Option LogValue) → same_logs log log ≡ true
 log_same None = refl
@@ -110,12 +101,6 @@ module _ (last : ℕ) (anchor : Header) (bad : Option LogValue) (sectors : Optio
       by_one (Some secondary) secondary true (max 0 (entries_of (Ok secondary))) refl refl (second secondary refl) (omega (arith, one))
   all_give level (Err fault) (Err other) first second (inl whole) = absurd cc
   all_give level (Err fault) (Err other) first second (inr whole) = absurd cc
-
--- there is one
-there_is : (size : ℕ) (sector : ℕ → List ℕ) (anchor : Header) (place : Which) (copy : DiskCopy) → copy_of size sector anchor place ≡ Ok copy
-    → ((copy : DiskCopy) × (copy_of size sector anchor Primary ≡ Ok copy)) ⊎ ((copy : DiskCopy) × (copy_of size sector anchor Secondary ≡ Ok copy))
-there_is size sector anchor Primary copy is = inl (copy, is)
-there_is size sector anchor Secondary copy is = inr (copy, is)
 
 -- by a copy of some moment of the disk
 module _ (size : ℕ) (sector : ℕ → List ℕ) (anchor : Header) (base : ℕ → List ℕ) (which : Which) (copy : DiskCopy) (is : copy_of size base anchor which ≡ Ok copy) (sectors : Option ℕ)

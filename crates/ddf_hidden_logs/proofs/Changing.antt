@@ -19,13 +19,8 @@ use Rattle.ddf_update.specs.declared.prepared.Prepared.{Prepared}
 use Rattle.ddf_update.specs.Changes.{IsGetting, IsLeftChangingAll, MayChangeAll, MayGet, SlotChange, anchor_after}
 use Rattle.ddf_update.specs.Update.{AreBoth, AreReadPartly, IsChanging, IsReadPartly, MayChange}
 use Rattle.ddf_logs.specs.Logs.{configured_size}
+use Rattle.ddf_logs.proofs.Lasting.{place_is}
 use Rattle.ddf_hidden_logs.specs.Lasting.{CarryLog}
-
-place_is : (last which : Which) → (which ≡ last) ⊎ (which ≡ other_of last)
-place_is Primary Primary = inl refl
-place_is Primary Secondary = inr refl
-place_is Secondary Primary = inr refl
-place_is Secondary Secondary = inl refl
 
 module _ (size : ℕ) (before now : ℕ → List ℕ) (anchor : Header) (new : DiskCopy) (carry : CarryLog size before anchor new.bad (configured_size new)) where
   abbrev Carries : DiskCopy → Type 0

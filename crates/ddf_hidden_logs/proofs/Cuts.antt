@@ -1,16 +1,12 @@
 -- The pieces of a run, from the front on.
-use Rattle.std.proofs.Common.{◌≡◌, ℕ, ◌+◌, ◌-◌, ◌<◌, ◌≤◌, zero, suc, List, [], ◌∷◌, Bool, true, false, get_or, drop, refl, ◌∙◌, ap, arith}
+use Rattle.std.proofs.Common.{◌≡◌, ℕ, ◌+◌, ◌-◌, ◌<◌, ◌≤◌, zero, suc, List, [], ◌∷◌, true, false, get_or, drop, refl, ◌∙◌, ap, arith}
 use Rattle.std.proofs.lemmas.List.{get_or-drop}
 use Rattle.std.proofs.lemmas.Bool.{ne_eqb}
-use Rattle.std.specs.Prelude.{◌==◌, ◌||◌, Option}
+use Rattle.std.specs.Prelude.{◌==◌, Option}
+use Rattle.ddf_lemmas.proofs.Tests.{begins_then}
 use Rattle.ddf_hidden_logs.specs.declared.mask.Mask.{Mask}
 use Rattle.ddf_hidden_logs.specs.Masks.{turns}
 use Rattle.ddf_hidden_logs.specs.Pieces.{begins_at, pieces_below, turns_at}
-
-begins_then : (z a b z' a' b' : Bool) → z ≡ false → a ≡ a' → b ≡ b' → (z || (a || b)) ≡ true → (z' || (a' || b')) ≡ true
-begins_then true a b z' a' b' later same same' begins = absurd cc
-begins_then false a b true a' b' later same same' begins = refl
-begins_then false a b false a' b' later same same' begins = rw (← same, ← same') begins
 
 -- a run of one sector
 pub pieces_one : (mask : Option Mask) (lba : ℕ) (sector : List ℕ) → pieces_below mask lba (sector ∷ []) 1 ≡ 1

@@ -16,6 +16,7 @@ use Rattle.ddf_copy.specs.Anchor.{anchor_at}
 use Rattle.ddf_copy.specs.Copies.{copies_of, copy_of, newest_of, standing_copy}
 use Rattle.ddf_copy.specs.Which.{place_of}
 use Rattle.ddf_copy.proofs.Places.{alike}
+use Rattle.ddf_update.proofs.Changing.{same_anchor}
 use Rattle.ddf_badblocks.specs.declared.range.Range.{Range}
 use Rattle.ddf_badblocks.specs.Ranges.{swap}
 use Rattle.ddf_badblocks.specs.SwapLaws.{swap_twice}
@@ -34,7 +35,7 @@ use Rattle.ddf_hidden_logs.proofs.Located.{last_off}
 use Rattle.ddf_hidden_logs.proofs.Logged.{log_some}
 use Rattle.ddf_hidden_logs.proofs.Newest.{either}
 use Rattle.ddf_hidden_logs.proofs.Other.{is_there}
-use Rattle.ddf_hidden_logs.proofs.Seen.{mask_standing, same_last, seen_anchor}
+use Rattle.ddf_hidden_logs.proofs.Seen.{mask_standing, seen_anchor}
 use Rattle.ddf_hidden_logs.proofs.Shows.{plain_at, read_log, shows}
 use Rattle.ddf_hidden_logs.proofs.Unhidden.{unhidden}
 use Rattle.ddf_hidden_logs.proofs.Whole.{sectors_bytes, sectors_size}
@@ -109,7 +110,7 @@ module _ (size : ℕ) (before now : ℕ → List ℕ) (whole : (l : ℕ) → IsW
       by_same false = plain_at anchor section log count which (size - 1) (now (size - 1)) (last_off size before anchor which copy is (log_some size before anchor which copy is log has))
 
   anchor_below : anchor_at size seen ≡ anchor_at size now
-  anchor_below = same_last size seen now (ap (λ (mask : Option Mask). turn mask (size - 1) (now (size - 1))) own_mask ∙ last_by copy.bad refl)
+  anchor_below = same_anchor size seen now (ap (λ (mask : Option Mask). turn mask (size - 1) (now (size - 1))) own_mask ∙ last_by copy.bad refl)
 
   -- a copy that is whole below is seen whole
   abbrev IsSeen : (mask : Option Mask) → Which → Type 0

@@ -1,6 +1,7 @@
 -- A copy whose log stands there with another first sector, and all of whose other sectors are as they were.
-use Rattle.std.proofs.Common.{◌≡◌, ◌≢◌, ◌⊎◌, ◌∙◌, ℕ, zero, suc, ◌+◌, ◌-◌, ◌<◌, ◌≤◌, List, [], ◌∷◌, map, Option, Some, None, Result, Ok, Err, refl, sym, ap, inl, inr, arith}
+use Rattle.std.proofs.Common.{◌≡◌, ◌≢◌, ◌∙◌, ℕ, zero, suc, ◌+◌, ◌-◌, ◌<◌, List, [], ◌∷◌, map, Option, Some, None, Result, Ok, Err, refl, sym, ap, inl, inr, arith}
 use Rattle.std.specs.List.{range_with_len}
+use Rattle.ddf_lemmas.proofs.Lists.{same_map}
 use Rattle.ddf_header.specs.declared.geometry.Section.{Section}
 use Rattle.ddf_header.specs.declared.reading.Header.{Header}
 use Rattle.ddf_header.specs.Geometry.{section_of}
@@ -19,7 +20,7 @@ use Rattle.ddf_copy.specs.Gate.{header_of}
 use Rattle.ddf_copy.specs.Sections.{bytes_in, copy_in, in_section, in_sector, in_slots, log_in, raw_at, sectors_at, whole_slots}
 use Rattle.ddf_copy.specs.Which.{other_of, place_of}
 use Rattle.ddf_copy.proofs.CopiesRead.{copy_is}
-use Rattle.ddf_copy.proofs.LastCopies.{header_is}
+use Rattle.ddf_copy.proofs.LastCopies.{header_is, ok_or}
 use Rattle.ddf_hidden_logs.proofs.Located.{off_arrays, off_controller, off_disk_data, off_disks, off_header, off_records, off_rest}
 
 -- ---- another log in the same sections
@@ -28,10 +29,6 @@ use Rattle.ddf_hidden_logs.proofs.Located.{off_arrays, off_controller, off_disk_
 abbrev Takes : Header → Raw → List (List ℕ) → Option LogValue → Result DiskCopy CopyFault → Type 0
 Takes header raw sectors bad (Ok copy) = (copy_in header (record raw { bad_blocks = sectors }) ≡ Ok (record copy { bad = bad })) × (log_in raw.bad_blocks ≡ Ok copy.bad)
 Takes header raw sectors bad (Err fault) = Unit {0}
-
-ok_or : {A : Type 0} (read : Result A CopyFault) → ((value : A) × (read ≡ Ok value)) ⊎ ((fault : CopyFault) × (read ≡ Err fault))
-ok_or (Ok value) = inl (value, refl)
-ok_or (Err fault) = inr (fault, refl)
 
 takes : (header : Header) (raw : Raw) (sectors : List (List ℕ)) (bad : Option LogValue) → log_in sectors ≡ Ok bad → Takes header raw sectors bad (copy_in header raw)
 unfolding copy_in
@@ -56,13 +53,6 @@ takes header raw sectors bad now = elim (ok_or (in_sector names.Controller (deco
 ]
 
 -- ---- the same sectors elsewhere
-
-same_map : (one other : ℕ → List ℕ) (start count : ℕ) → ((l : ℕ) → start ≤ l → l < start + count → one l ≡ other l) → map one (range_with_len start count) ≡ map other (range_with_len start count)
-same_map one other start zero same = refl
-same_map one other start (suc count) same =
-    let first : one start ≡ other start = same start (omega arith) (omega arith) in
-    let rest = same_map one other (start + 1) count (λ l from below. same l (omega (arith, from)) (omega (arith, below))) in
-    rw (first, rest) refl
 
 -- the first sector of a section, and the others
 pub first_and_rest : (sector : ℕ → List ℕ) (start count : ℕ) → 0 < count → map sector (range_with_len start count) ≡ sector start ∷ map sector (range_with_len (start + 1) (count - 1))

@@ -1,5 +1,5 @@
 -- The newest copy of a disk is seen where it stands, whatever the other copy is.
-use Rattle.std.proofs.Common.{◌≡◌, ◌⊎◌, ◌∙◌, ℕ, ◌+◌, ◌*◌, ◌-◌, ◌<◌, ◌≤◌, ◌^◌, Bool, true, false, List, ◌++◌, length, take, map, Option, Some, None, Result, Ok, Err, refl, sym, ap, subst, inl, inr, ⊎_elim, arith}
+use Rattle.std.proofs.Common.{◌≡◌, ◌⊎◌, ◌∙◌, ℕ, ◌+◌, ◌*◌, ◌-◌, ◌<◌, ◌≤◌, ◌^◌, Bool, true, false, List, ◌++◌, length, take, map, Option, Some, None, Result, Ok, Err, refl, sym, ap, subst, inl, inr, ⊎_elim, arith, drop_at, length-take-le}
 use Rattle.std.specs.Prelude.{nat_lt, if◌then◌else◌}
 use Rattle.std.specs.List.{range_with_len}
 use Rattle.std.specs.Int.{w16}
@@ -28,7 +28,7 @@ use Rattle.ddf_hidden_logs.proofs.Logged.{first_and_rest}
 use Rattle.ddf_hidden_logs.proofs.Other.{IsEither, IsFrontOf, is_there}
 use Rattle.ddf_hidden_logs.proofs.Recounted.{count_stands, parts_are, recounted_bytes, recounted_sealed, recounted_size}
 use Rattle.ddf_hidden_logs.proofs.Shows.{below_is, bytes_are, bytes_size, copy_now, long, read_log, shown_is}
-use Rattle.ddf_hidden_logs.proofs.Whole.{IsReadOf, drop_front, sectors_size, take_size}
+use Rattle.ddf_hidden_logs.proofs.Whole.{IsReadOf, sectors_size}
 
 -- ---- which of two copies stands
 
@@ -130,7 +130,7 @@ module _ (size : ℕ) (sector : ℕ → List ℕ) (whole : (l : ℕ) → IsWhole
   shown_bytes : mask.shown ++ after ≡ recounted count bytes
   shown_bytes =
       ap (λ (head : List ℕ). head ++ after) (shown_is size sector whole anchor which copy is log has count small fits)
-      ∙ ap (λ (others : List ℕ). take 512 (recounted count bytes) ++ others) (sym (drop_front (sector front) after 512 (whole front).size))
+      ∙ ap (λ (others : List ℕ). take 512 (recounted count bytes) ++ others) (sym (drop_at (sector front) after 512 (whole front).size))
       ∙ parts_are bytes enough count
 
   below_front : IsFrontOf mask.below after
@@ -154,7 +154,7 @@ module _ (size : ℕ) (sector : ℕ → List ℕ) (whole : (l : ℕ) → IsWhole
       let stated = count_stands bytes enough count are small in
       let here : LOG_ENTRIES_AT + LOG_ENTRY_BYTES * number_at w16 (recounted count bytes) LOG_COUNT_AT ≤ length (recounted count bytes) = omega (arith, stated, now_size, size_is, fits) in
       record {
-        size = ap length (shown_is size sector whole anchor which copy is log has count small fits) ∙ take_size 512 (recounted count bytes) (omega (arith, now_size, more));
+        size = ap length (shown_is size sector whole anchor which copy is log has count small fits) ∙ length-take-le 512 (recounted count bytes) (omega (arith, now_size, more));
         are = subst AreBytes (sym shown_bytes) (recounted_bytes bytes enough count are small);
         sealed = subst (IsSealed log_signature) (sym shown_bytes) (recounted_sealed bytes enough count are small);
         fits = subst (λ (section : List ℕ). LOG_ENTRIES_AT + LOG_ENTRY_BYTES * number_at w16 section LOG_COUNT_AT ≤ length section) (sym shown_bytes) here;

@@ -16,7 +16,8 @@ use Rattle.ddf_seal.specs.declared.sealing.TheConstants.{CRC_AT}
 use Rattle.ddf_seal.specs.declared.unread.Span.{Span}
 use Rattle.ddf_seal.proofs.CrcSteps.{crc_fits}
 use Rattle.ddf_seal.proofs.Same.{SameAt, bytes_at-same}
-use Rattle.ddf_seal.proofs.Seals.{check_from_sealed}
+use Rattle.ddf_seal.proofs.Seals.{check_from_sealed, AreBytes-placed}
+use Rattle.ddf_seal.proofs.Common.{append_bytes}
 use Rattle.ddf_header.specs.declared.geometry.Section.{Section}
 use Rattle.ddf_header.specs.declared.geometry.Geometry.{Geometry}
 use Rattle.ddf_header.specs.declared.reading.Header.{Header}
@@ -38,10 +39,9 @@ use Rattle.ddf_hidden_logs.specs.Masks.{other_of as other_of_mask}
 use Rattle.ddf_hidden_logs.specs.TurnLaws.{other_below, other_shown, when_not, when_turned}
 use Rattle.ddf_hidden_logs.specs.Recounts.{mask_of_log}
 use Rattle.ddf_hidden_logs.proofs.Logged.{first_and_rest, log_read, shown_copy}
-use Rattle.ddf_hidden_logs.proofs.Recounted.{placed_bytes}
 use Rattle.ddf_hidden_logs.proofs.SealedAlike.{sealed_alike}
 use Rattle.ddf_hidden_logs.proofs.Shows.{plain_at}
-use Rattle.ddf_hidden_logs.proofs.Whole.{append_bytes, front_bytes, log_of_sectors, sectors_bytes, sectors_size}
+use Rattle.ddf_hidden_logs.proofs.Whole.{front_bytes, log_of_sectors, sectors_bytes, sectors_size}
 
 -- ---- a log with either front
 
@@ -62,7 +62,7 @@ pub record IsEither (mask : Mask) (sectors : ℕ) : Type 0 where
 
 crc_small : (bytes : List ℕ) → 8 ≤ length bytes → AreBytes bytes → record_crc bytes < 2 ^ 32
 unfolding placed
-crc_small bytes long are = crc_fits (placed bytes CRC_AT (replicate 4 255)) (placed_bytes bytes CRC_AT (replicate 4 255) long are four)
+crc_small bytes long are = crc_fits (placed bytes CRC_AT (replicate 4 255)) (AreBytes-placed bytes CRC_AT (replicate 4 255) long are four)
   where
     four : AreBytes (replicate 4 255)
     four zero = omega arith

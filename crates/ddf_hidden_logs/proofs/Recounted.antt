@@ -1,7 +1,7 @@
 -- The section of a log with another count of entries: it reads as a log with so many, and only its first sector is another one.
-use Rattle.std.proofs.Common.{◌≡◌, ◌∙◌, ℕ, zero, suc, ◌+◌, ◌*◌, ◌-◌, ◌<◌, ◌≤◌, ◌^◌, false, ltb, List, ◌++◌, length, take, drop, get_or, None, Ok, inl, inr, refl, sym, ap, arith}
+use Rattle.std.proofs.Common.{◌≡◌, ◌∙◌, ℕ, zero, suc, ◌+◌, ◌*◌, ◌-◌, ◌<◌, ◌≤◌, ◌^◌, false, ltb, List, ◌++◌, length, take, drop, get_or, None, Ok, inr, refl, sym, ap, arith}
 use Rattle.std.specs.Int.{w16, w32, to_be_bytes, from_be_bytes}
-use Rattle.std.proofs.lemmas.Bool.{cases_lt, le-ltb}
+use Rattle.std.proofs.lemmas.Bool.{le-ltb}
 use Rattle.std.proofs.lemmas.List.{ext_get_or, get_or-drop, length-drop, take-append-drop}
 use Rattle.std.proofs.lemmas.Nat.{from_be_bytes-to_be_bytes_2}
 use Rattle.ddf_bytes.specs.Bytes.{bytes_at, number_at}
@@ -10,25 +10,15 @@ use Rattle.ddf_seal.specs.declared.sealing.TheConstants.{SIGNATURE_AT, CRC_AT}
 use Rattle.ddf_seal.specs.declared.unread.Span.{Span}
 use Rattle.ddf_seal.specs.Seal.{IsSealed, record_crc, seal_check, seal_place, sealed}
 use Rattle.ddf_seal.specs.Unread.{AreBytes, placed}
-use Rattle.ddf_seal.proofs.Placing.{get_or-placed_above, get_or-placed_below, get_or-placed_in}
 use Rattle.ddf_seal.proofs.Records.{sealed_is, sealed_outside}
 use Rattle.ddf_seal.proofs.Same.{IsOutside, SameAt, bytes_at-placed, bytes_at-same, placed_outside}
-use Rattle.ddf_seal.proofs.Seals.{check_from_sealed}
+use Rattle.ddf_seal.proofs.Seals.{check_from_sealed, AreBytes-placed}
 use Rattle.ddf_tables.specs.declared.layout.TheConstants.{LOG_COUNT_AT, LOG_ENTRIES_AT, LOG_ENTRY_BYTES}
 use Rattle.ddf_tables.specs.BadBlocks.{decoded_log, entries_that_fit, entry_at, log_at, log_faults, log_signature}
 use Rattle.ddf_tables.proofs.Parts.{length-each_at}
 use Rattle.ddf_hidden_logs.specs.Recounts.{recounted}
 
 -- ---- bytes stay bytes
-
-pub placed_bytes : (bytes : List ℕ) (at : ℕ) (new : List ℕ) → at + length new ≤ length bytes → AreBytes bytes → AreBytes new → AreBytes (placed bytes at new)
-placed_bytes bytes at new within are also i = elim (cases_lt i at) [
-  | inl lt ↦ rw (get_or-placed_below bytes at new i 0 within lt) (are i)
-  | inr le ↦ elim (cases_lt i (at + length new)) [
-    | inl lt ↦ rw (get_or-placed_in bytes at new i 0 within le lt) (also (i - at))
-    | inr past ↦ rw (get_or-placed_above bytes at new i 0 within past) (are i)
-  ]
-]
 
 four_bytes : (n : ℕ) → AreBytes (to_be_bytes w32 n)
 four_bytes n zero = omega arith
@@ -48,7 +38,7 @@ sealed_bytes signature bytes long are =
     let first : Span = record { at = SIGNATURE_AT; length = 4 } in
     let signed = placed bytes SIGNATURE_AT (to_be_bytes w32 signature) in
     let size = (placed_outside bytes first (to_be_bytes w32 signature) refl (omega (arith, long))).size in
-    placed_bytes signed CRC_AT (to_be_bytes w32 (record_crc signed)) (omega (arith, long, size)) (placed_bytes bytes SIGNATURE_AT (to_be_bytes w32 signature) (omega (arith, long)) are (four_bytes signature)) (four_bytes (record_crc signed))
+    AreBytes-placed signed CRC_AT (to_be_bytes w32 (record_crc signed)) (omega (arith, long, size)) (AreBytes-placed bytes SIGNATURE_AT (to_be_bytes w32 signature) (omega (arith, long)) are (four_bytes signature)) (four_bytes (record_crc signed))
 
 -- ---- the section
 
@@ -100,7 +90,7 @@ module _ (section : List ℕ) (long : 512 ≤ length section) (count : ℕ) wher
     pub recounted_bytes : AreBytes (recounted count section)
     recounted_bytes =
         let more = counted_long in
-        rw recounted_is (sealed_bytes log_signature counted (omega (arith, more)) (placed_bytes section LOG_COUNT_AT (to_be_bytes w16 count) (omega (arith, long)) are (two_bytes count)))
+        rw recounted_is (sealed_bytes log_signature counted (omega (arith, more)) (AreBytes-placed section LOG_COUNT_AT (to_be_bytes w16 count) (omega (arith, long)) are (two_bytes count)))
 
     pub count_stands : number_at w16 (recounted count section) LOG_COUNT_AT ≡ count
     count_stands =

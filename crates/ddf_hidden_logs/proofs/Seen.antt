@@ -11,6 +11,7 @@ use Rattle.ddf_copy.specs.declared.which.Which.{Which}
 use Rattle.ddf_copy.specs.Anchor.{anchor_at}
 use Rattle.ddf_copy.specs.Copies.{copies_of, copy_of, newest_of, standing_copy}
 use Rattle.ddf_copy.proofs.Places.{standing_whole}
+use Rattle.ddf_update.proofs.Changing.{same_anchor}
 use Rattle.ddf_logs.specs.Logs.{bad_in}
 use Rattle.ddf_hidden_logs.specs.declared.mask.Mask.{Mask}
 use Rattle.ddf_hidden_logs.specs.Masks.{turn}
@@ -93,14 +94,9 @@ module _ (size : ℕ) (sector : ℕ → List ℕ) (anchor : Header) where
       ap (λ (mask : Option Mask). turn mask (size - 1) (sector (size - 1))) (mask_standing anchored (standing_copy (newest_of size sector anchor)) refl)
       ∙ last_of anchored (standing_copy (newest_of size sector anchor)) refl
 
--- the anchor of a disk is what its last sector says
-pub same_last : (size : ℕ) (now before : ℕ → List ℕ) → now (size - 1) ≡ before (size - 1) → anchor_at size now ≡ anchor_at size before
-unfolding anchor_at
-same_last size now before same = rw same refl
-
 pub seen_anchor : (size : ℕ) (sector : ℕ → List ℕ) → anchor_at size (shown_at size sector) ≡ anchor_at size sector
 seen_anchor size sector = by (anchor_at size sector) refl
   where
     by : (found : Result Header AnchorFault) → anchor_at size sector ≡ found → anchor_at size (shown_at size sector) ≡ anchor_at size sector
-    by (Ok anchor) anchored = same_last size (shown_at size sector) sector (last_seen size sector anchor anchored)
-    by (Err fault) none = same_last size (shown_at size sector) sector (ap (λ (mask : Option Mask). turn mask (size - 1) (sector (size - 1))) (none_is size sector fault none))
+    by (Ok anchor) anchored = same_anchor size (shown_at size sector) sector (last_seen size sector anchor anchored)
+    by (Err fault) none = same_anchor size (shown_at size sector) sector (ap (λ (mask : Option Mask). turn mask (size - 1) (sector (size - 1))) (none_is size sector fault none))

@@ -1,5 +1,5 @@
 -- A disk that is seen through the mask of a copy's log shows this copy with another count of entries.
-use Rattle.std.proofs.Common.{◌≡◌, ◌≢◌, ◌∙◌, ℕ, ◌+◌, ◌*◌, ◌-◌, ◌<◌, ◌≤◌, ◌^◌, Bool, true, false, List, ◌∷◌, ◌++◌, [], length, take, map, Option, Some, None, Ok, refl, sym, ap, arith}
+use Rattle.std.proofs.Common.{◌≡◌, ◌≢◌, ◌∙◌, ℕ, ◌+◌, ◌*◌, ◌-◌, ◌<◌, ◌≤◌, ◌^◌, Bool, true, false, List, ◌∷◌, ◌++◌, [], length, take, map, Option, Some, None, Ok, refl, sym, ap, arith, drop_at, length-take-le, take_at}
 use Rattle.std.specs.Prelude.{option_map, ◌==◌, if◌then◌else◌}
 use Rattle.std.specs.List.{range_with_len}
 use Rattle.std.proofs.lemmas.Bool.{eq-eqb, eqb-true, ne_eqb, or_left, or_right}
@@ -23,7 +23,7 @@ use Rattle.ddf_hidden_logs.specs.Recounts.{mask_by, mask_of_log, recounted, reco
 use Rattle.ddf_hidden_logs.specs.TurnLaws.{below_turned, sector_of, when_not}
 use Rattle.ddf_hidden_logs.proofs.Logged.{first_and_rest, log_read, shown_copy}
 use Rattle.ddf_hidden_logs.proofs.Recounted.{entries_are, parts_are, recounted_bytes, recounted_reads, recounted_size}
-use Rattle.ddf_hidden_logs.proofs.Whole.{IsReadOf, drop_front, log_of_sectors, sectors_bytes, sectors_size, take_bytes, take_front, take_size}
+use Rattle.ddf_hidden_logs.proofs.Whole.{IsReadOf, log_of_sectors, sectors_bytes, sectors_size, take_bytes}
 
 -- ---- the places of a mask
 
@@ -85,7 +85,7 @@ module _ (size : ℕ) (sector : ℕ → List ℕ) (whole : (l : ℕ) → IsWhole
     long = let size_is = bytes_size in let some = (read).some in omega (arith, size_is, some)
 
     pub below_is : mask.below ≡ sector front
-    below_is = ap (take 512) written ∙ take_front (sector front) (bytes_in rest) 512 (whole front).size
+    below_is = ap (take 512) written ∙ take_at (sector front) (bytes_in rest) 512 (whole front).size
 
     pub shown_is : mask.shown ≡ take 512 (recounted count bytes)
     shown_is = ap (λ (section : List ℕ). take 512 (recounted count section)) written
@@ -97,7 +97,7 @@ module _ (size : ℕ) (sector : ℕ → List ℕ) (whole : (l : ℕ) → IsWhole
     second =
         let size_is = recounted_size bytes long count in
         let enough = long in
-        ap is_sector shown_is ∙ sector_of (take 512 (recounted count bytes)) (take_size 512 (recounted count bytes) (omega (arith, size_is, enough))) (take_bytes 512 (recounted count bytes) (recounted_bytes bytes long count bytes_are small))
+        ap is_sector shown_is ∙ sector_of (take 512 (recounted count bytes)) (length-take-le 512 (recounted count bytes) (omega (arith, size_is, enough))) (take_bytes 512 (recounted count bytes) (recounted_bytes bytes long count bytes_are small))
 
     abbrev pub now : ℕ → List ℕ
     now l = turned_by mask l (sector l)
@@ -115,7 +115,7 @@ module _ (size : ℕ) (sector : ℕ → List ℕ) (whole : (l : ℕ) → IsWhole
     section_now : bytes_in (now front ∷ rest) ≡ recounted count bytes
     section_now =
         ap (λ (bytes : List ℕ). bytes ++ bytes_in rest) front_now
-        ∙ ap (λ (others : List ℕ). take 512 (recounted count bytes) ++ others) (sym (drop_front (sector front) (bytes_in rest) 512 (whole front).size))
+        ∙ ap (λ (others : List ℕ). take 512 (recounted count bytes) ++ others) (sym (drop_at (sector front) (bytes_in rest) 512 (whole front).size))
         ∙ parts_are bytes long count
 
     log_now : log_in (now front ∷ rest) ≡ Ok (Some (log_at (recounted count bytes)))

@@ -1,5 +1,5 @@
 -- A copy that is seen with the log that a mask shows stands below with the log that it hides.
-use Rattle.std.proofs.Common.{◌≡◌, ◌≢◌, ◌∙◌, ℕ, ◌+◌, ◌*◌, ◌-◌, ◌<◌, ◌≤◌, ◌^◌, true, List, ◌∷◌, ◌++◌, length, take, drop, map, Some, Ok, sym, ap, inl, arith}
+use Rattle.std.proofs.Common.{◌≡◌, ◌≢◌, ◌∙◌, ℕ, ◌+◌, ◌*◌, ◌-◌, ◌<◌, ◌≤◌, ◌^◌, true, List, ◌∷◌, ◌++◌, length, take, drop, map, Some, Ok, sym, ap, inl, arith, drop_at, length-take-le, take_at}
 use Rattle.std.proofs.lemmas.List.{take-append-drop}
 use Rattle.std.specs.List.{range_with_len}
 use Rattle.ddf_bay.specs.Sectors.{IsWhole}
@@ -23,7 +23,7 @@ use Rattle.ddf_hidden_logs.specs.TurnLaws.{by_twice, sector_of, shown_turned, sh
 use Rattle.ddf_hidden_logs.proofs.Logged.{first_and_rest, shown_copy}
 use Rattle.ddf_hidden_logs.proofs.Recounted.{recounted_bytes, recounted_reads, recounted_size, rest_same}
 use Rattle.ddf_hidden_logs.proofs.Shows.{front_is_place, plain_at, read_log}
-use Rattle.ddf_hidden_logs.proofs.Whole.{IsReadOf, drop_front, take_bytes, take_front, take_size}
+use Rattle.ddf_hidden_logs.proofs.Whole.{IsReadOf, take_bytes}
 
 module _ (size : ℕ) (sector : ℕ → List ℕ) (whole : (l : ℕ) → IsWhole (sector l)) (anchor : Header) (which : Which) (seen : DiskCopy) (log : LogValue) (count : ℕ) where
   abbrev section : Section
@@ -75,19 +75,19 @@ module _ (size : ℕ) (sector : ℕ → List ℕ) (whole : (l : ℕ) → IsWhole
         sym (ap bytes_in (first_and_rest now front section.length (there).some)) ∙ sym (there).written ∙ log_again shown (recounted count bytes) shown_is
 
     front_seen : now front ≡ mask.shown
-    front_seen = sym (take_front (now front) (bytes_in rest) 512 (whole_now front).size) ∙ ap (take 512) section_seen
+    front_seen = sym (take_at (now front) (bytes_in rest) 512 (whole_now front).size) ∙ ap (take 512) section_seen
 
     rest_seen : bytes_in rest ≡ drop 512 bytes
-    rest_seen = sym (drop_front (now front) (bytes_in rest) 512 (whole_now front).size) ∙ ap (drop 512) section_seen ∙ rest_same bytes long count
+    rest_seen = sym (drop_at (now front) (bytes_in rest) 512 (whole_now front).size) ∙ ap (drop 512) section_seen ∙ rest_same bytes long count
 
     first : is_sector mask.below ≡ true
-    first = sector_of (take 512 bytes) (take_size 512 bytes long) (take_bytes 512 bytes are)
+    first = sector_of (take 512 bytes) (length-take-le 512 bytes long) (take_bytes 512 bytes are)
 
     second : is_sector mask.shown ≡ true
     second =
         let enough = long in
         let same = again_size in
-        sector_of (take 512 (recounted count bytes)) (take_size 512 (recounted count bytes) (omega (arith, enough, same))) (take_bytes 512 (recounted count bytes) (recounted_bytes bytes long count are small))
+        sector_of (take 512 (recounted count bytes)) (length-take-le 512 (recounted count bytes) (omega (arith, enough, same))) (take_bytes 512 (recounted count bytes) (recounted_bytes bytes long count are small))
 
     -- what stands there
     front_below : sector front ≡ take 512 bytes

@@ -1,5 +1,5 @@
 -- The bytes of whole sectors, and a log that is read of them.
-use Rattle.std.proofs.Common.{◌≡◌, ◌∙◌, ℕ, zero, suc, ◌+◌, ◌*◌, ◌<◌, ◌≤◌, ◌^◌, List, [], ◌∷◌, ◌++◌, length, take, drop, map, Some, Result, Ok, Err, refl, sym, ap, inl, arith}
+use Rattle.std.proofs.Common.{◌≡◌, ◌∙◌, ℕ, zero, suc, ◌+◌, ◌*◌, ◌<◌, ◌≤◌, ◌^◌, List, [], ◌∷◌, ◌++◌, length, take, map, Some, Result, Ok, Err, sym, inl, arith}
 use Rattle.std.specs.List.{range_with_len}
 use Rattle.std.specs.Prelude.{◌==◌, false}
 use Rattle.std.proofs.lemmas.Bool.{ne_eqb}
@@ -7,17 +7,13 @@ use Rattle.std.proofs.lemmas.List.{length-append}
 use Rattle.std.proofs.lemmas.List.FromFn.{length-map-range_with_len}
 use Rattle.ddf_bay.specs.Sectors.{IsWhole}
 use Rattle.ddf_seal.specs.Unread.{AreBytes}
+use Rattle.ddf_seal.proofs.Common.{append_bytes}
 use Rattle.ddf_tables.specs.declared.fault.TableFault.{TableFault}
 use Rattle.ddf_tables.specs.declared.layout.TheConstants.{LOG_ENTRIES_AT, LOG_ENTRY_BYTES}
 use Rattle.ddf_tables.specs.BadBlocks.{IsLog, IsLogOf, LogValue, decoded_log, log_bytes}
 use Rattle.ddf_tables.proofs.LogValues.{log_again, log_decoded, log_writable}
 use Rattle.ddf_copy.specs.declared.fault.SectionName.TheVariants as names
 use Rattle.ddf_copy.specs.Sections.{bytes_in, in_section, log_in, some_log}
-
-pub append_bytes : (xs ys : List ℕ) → AreBytes xs → AreBytes ys → AreBytes (xs ++ ys)
-append_bytes [] ys first second i = second i
-append_bytes (x ∷ xs) ys first second zero = first 0
-append_bytes (x ∷ xs) ys first second (suc i) = append_bytes xs ys (λ j. first (suc j)) second i
 
 pub front_bytes : (xs ys : List ℕ) → AreBytes (xs ++ ys) → AreBytes xs
 front_bytes [] ys are i = omega arith
@@ -29,24 +25,6 @@ take_bytes zero xs are i = omega arith
 take_bytes (suc n) [] are i = omega arith
 take_bytes (suc n) (x ∷ xs) are zero = are 0
 take_bytes (suc n) (x ∷ xs) are (suc i) = take_bytes n xs (λ j. are (suc j)) i
-
-pub take_size : (n : ℕ) (xs : List ℕ) → n ≤ length xs → length (take n xs) ≡ n
-take_size zero xs long = refl
-take_size (suc n) [] long = absurd (omega (arith, long))
-take_size (suc n) (x ∷ xs) long = let rest = take_size n xs (omega (arith, long)) in omega (arith, rest)
-
--- the front of bytes, and what is behind it
-pub take_front : (xs ys : List ℕ) (n : ℕ) → length xs ≡ n → take n (xs ++ ys) ≡ xs
-take_front [] ys zero size = refl
-take_front [] ys (suc n) size = absurd (omega (arith, size))
-take_front (x ∷ xs) ys zero size = absurd (omega (arith, size))
-take_front (x ∷ xs) ys (suc n) size = ap (λ (rest : List ℕ). x ∷ rest) (take_front xs ys n (omega (arith, size)))
-
-pub drop_front : (xs ys : List ℕ) (n : ℕ) → length xs ≡ n → drop n (xs ++ ys) ≡ ys
-drop_front [] ys zero size = refl
-drop_front [] ys (suc n) size = absurd (omega (arith, size))
-drop_front (x ∷ xs) ys zero size = absurd (omega (arith, size))
-drop_front (x ∷ xs) ys (suc n) size = drop_front xs ys n (omega (arith, size))
 
 module _ (sector : ℕ → List ℕ) (whole : (l : ℕ) → IsWhole (sector l)) where
   pub sectors_bytes : (start count : ℕ) → AreBytes (bytes_in (map sector (range_with_len start count)))

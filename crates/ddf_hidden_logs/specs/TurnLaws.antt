@@ -5,6 +5,7 @@ use Rattle.std.specs.Str.{bytes_eq}
 use Rattle.std.proofs.Common.{refl, ap, ◌∙◌, ⊎_elim, inl, inr, arith}
 use Rattle.std.proofs.lemmas.Bool.{and_parts, and_from, cases_Bool, eqb-true, eq-eqb, ltb-true, lt-ltb, or_cases, or_left, or_right}
 use Rattle.std.proofs.lemmas.Slice.Eq.{bytes_eq-Decides}
+use Rattle.ddf_lemmas.proofs.Lists.{bytes_same}
 use Rattle.ddf_bay.specs.Sectors.{Image, Outcomes, IsLeft, IsWhole}
 use Rattle.ddf_bay.specs.State.{BayState}
 use Rattle.ddf_bay.specs.Moments.{StopsLeave}
@@ -14,11 +15,8 @@ use Rattle.ddf_hidden_logs.specs.State.{shown_image}
 
 -- ---- the two sectors of a mask
 
-same_bytes : (bytes : List ℕ) → bytes_eq bytes bytes ≡ true
-same_bytes bytes = (bytes_eq-Decides bytes bytes).1 refl
-
 pub other_below : (mask : Mask) → other_of mask mask.below ≡ mask.shown
-other_below mask = rw (same_bytes mask.below) refl
+other_below mask = rw (bytes_same mask.below) refl
 
 pub other_shown : (mask : Mask) → other_of mask mask.shown ≡ mask.below
 other_shown mask = ⊎_elim
@@ -75,12 +73,12 @@ module _ (mask : Mask) (l : ℕ) where
     -- what stands there is seen as what is shown, and the other way round
     pub below_turned : turned_by mask l mask.below ≡ mask.shown
     below_turned =
-        when_turned mask.below (made_of mask.below (record { place = place; either = or_left (bytes_eq mask.below mask.below) (bytes_eq mask.below mask.shown) (same_bytes mask.below); first = first; second = second }))
+        when_turned mask.below (made_of mask.below (record { place = place; either = or_left (bytes_eq mask.below mask.below) (bytes_eq mask.below mask.shown) (bytes_same mask.below); first = first; second = second }))
         ∙ other_below mask
 
     pub shown_turned : turned_by mask l mask.shown ≡ mask.below
     shown_turned =
-        when_turned mask.shown (made_of mask.shown (record { place = place; either = or_right (bytes_eq mask.shown mask.below) (bytes_eq mask.shown mask.shown) (same_bytes mask.shown); first = first; second = second }))
+        when_turned mask.shown (made_of mask.shown (record { place = place; either = or_right (bytes_eq mask.shown mask.below) (bytes_eq mask.shown mask.shown) (bytes_same mask.shown); first = first; second = second }))
         ∙ other_shown mask
 
   module _ (bytes : List ℕ) (is : turns_by mask l bytes ≡ true) where

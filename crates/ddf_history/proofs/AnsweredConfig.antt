@@ -1,10 +1,11 @@
 -- What the leaders of a group give, as assembly reads it and as histories tell of it.
-use Rattle.std.proofs.Common.{◌≡◌, ◌⊎◌, ℕ, zero, suc, ◌+◌, ◌<◌, ◌≤◌, ◌==◌, ◌&&◌, Bool, true, false, if◌then◌else◌, List, [], ◌∷◌, ◌++◌, length, Option, None, refl, ap, sym, ◌∙◌, inl, inr, arith}
+use Rattle.std.proofs.Common.{◌≡◌, ◌⊎◌, ℕ, zero, suc, ◌<◌, ◌≤◌, ◌==◌, ◌&&◌, Bool, true, false, if◌then◌else◌, List, [], ◌∷◌, ◌++◌, length, Option, None, refl, ap, sym, ◌∙◌, inl, inr, arith}
 use Rattle.std.proofs.lemmas.Bool.{cases_eq, cases_lt, and_from, eq-eqb, false≢true}
 use Rattle.std.proofs.lemmas.List.Elements.{filter-append, filter_map-append}
 use Rattle.std.specs.Prelude.{filter, filter_map}
 use Rattle.std.specs.List.{range_with_len}
 use Rattle.std.specs.Option.{option_map_or}
+use Rattle.ddf_lemmas.proofs.Lists.{range_below}
 use Rattle.ddf_view.specs.View.{View}
 use Rattle.ddf_view.specs.Reading.{read}
 use Rattle.ddf_group.specs.declared.shown.Shown.{Shown as GroupShown}
@@ -80,19 +81,6 @@ greatest_or_none test value (suc count) = go (greatest_or_none test value count)
         },
       )
     ]
-
--- ---- numbers in rising order
-
--- The next number goes behind.
-range_next : (start count : ℕ) → range_with_len start (suc count) ≡ range_with_len start count ++ (start + count) ∷ []
-range_next start zero = let here : start ≡ start + 0 = omega arith in ap (λ (n : ℕ). n ∷ []) here
-range_next start (suc count) =
-    let next : start + 1 + count ≡ start + suc count = omega arith in
-    ap (λ (ns : List ℕ). start ∷ ns) (range_next (start + 1) count ∙ ap (λ (n : ℕ). range_with_len (start + 1) count ++ n ∷ []) next)
-
--- It does so from zero on.
-range_below : (count : ℕ) → range_with_len 0 (suc count) ≡ range_with_len 0 count ++ count ∷ []
-range_below count = let here : 0 + count ≡ count = omega arith in range_next 0 count ∙ ap (λ (n : ℕ). range_with_len 0 count ++ n ∷ []) here
 
 -- ---- the leaders
 

@@ -2,8 +2,8 @@
 use Rattle.std.proofs.Common.{◌≡◌, ℕ, ◌<◌, ◌==◌, Bool, true, false, not, ◌&&◌, ◌||◌, List, length, Option, Some, None, option_map, Err, refl, ap, sym, ◌∙◌, inl, inr, arith, subst}
 use Rattle.std.proofs.lemmas.Bool.{cases_lt, and_from, and_parts, eqb-true, eq-eqb, false≢true, false_from_ne_true, not-true, not_from_false, or_left, or_right, true≢false}
 use Rattle.std.specs.Prelude.{find}
+use Rattle.ddf_lemmas.proofs.Options.{none_from_map, none_some}
 use Rattle.ddf_bytes.specs.Choices.{when}
-use Rattle.ddf_bytes.proofs.Nones.{none_map}
 use Rattle.ddf_view.specs.View.{View, lists_missing}
 use Rattle.ddf_view.proofs.Tests.{and_three}
 use Rattle.ddf_view.specs.Differ.{difference}
@@ -90,11 +90,6 @@ missing_in (shown.TwoDiffer primary secondary) copy guid reference (inr is) list
 
 -- ---- references
 
--- Nothing is no value.
-none_some : {X : Type 0} (o : Option X) (x : X) → o ≡ None → o ≡ Some x → ⊥
-none_some None x none some = absurd cc
-none_some (Some y) x none some = absurd cc
-
 -- Two slots have one reference.
 same_some : (o p : Option ℕ) (n : ℕ) → same_reference o p ≡ Some n → (o ≡ Some n) × (p ≡ Some n)
 same_some None p n same = absurd cc
@@ -138,7 +133,7 @@ module _ (group : List ℕ) (slots : List GroupShown) (alike : AreOfOneGroup slo
     one_of_leader : (slot : ℕ) → leads slots group slot ≡ true → has_two (slot_at slots slot) ≡ false
     one_of_leader slot leading = false_from_ne_true (has_two (slot_at slots slot)) (λ two.
         let by = leading_copy group slots alike slot leading in
-        let none = none_map (λ slot. in_conflict slots group slot slot causes.Copies) (find (leads_with_two slots group) (numbers slots)) one_copy in
+        let none = none_from_map (λ slot. in_conflict slots group slot slot causes.Copies) (find (leads_with_two slots group) (numbers slots)) one_copy in
         let fails = missed_below (leads_with_two slots group) (length slots) none slot (copy_within slots slot by.0 by.1.is_copy) in
         false≢true (sym fails ∙ and_from (has_two (slot_at slots slot)) (leads slots group slot) two leading))
 
@@ -193,7 +188,7 @@ module _ (group : List ℕ) (slots : List GroupShown) (alike : AreOfOneGroup slo
     unfolding leaders
     agree_in_order none s t one other less first second =
         let missed = missed_pair (leads slots group) (differ_at slots group) (length slots) none s t less (copy_within slots t other second.is_copy) (leader_leads group slots alike s one first) (leader_leads group slots alike t other second) in
-        let nothing = none_map (λ found. in_conflict slots group s t (differ_of found)) (difference_of (view_in (slot_at slots s)) (view_in (slot_at slots t))) missed in
+        let nothing = none_from_map (λ found. in_conflict slots group s t (differ_of found)) (difference_of (view_in (slot_at slots s)) (view_in (slot_at slots t))) missed in
         rw ((leader_only s one first).is_view, (leader_only t other second).is_view) at nothing
 
     -- No two leaders differ.
@@ -265,7 +260,7 @@ module _ (group : List ℕ) (slots : List GroupShown) (alike : AreOfOneGroup slo
     no_split none has =
         let leading = leader_leads group slots alike has.t has.leading has.leads in
         let missed = missed_with (leads slots group) (split_from slots group) (length slots) none has.t (copy_within slots has.t has.leading has.leads.is_copy) leading in
-        let nothing = none_map (λ slot. faults.Split has.t slot) (find (splits_from slots group has.t) (numbers slots)) missed in
+        let nothing = none_from_map (λ slot. faults.Split has.t slot) (find (splits_from slots group has.t) (numbers slots)) missed in
         let fails = missed_below (splits_from slots group has.t) (length slots) nothing has.s (copy_within slots has.s has.older has.is_copy) in
         let shows = slot_shows group slots alike has.s has.older has.is_copy has.is_standing in
         let lists = missing_in (slot_at slots has.s) has.missing has.leading.guid has.leading.reference has.is_missing has.misses in
@@ -332,7 +327,7 @@ module _ (group : List ℕ) (slots : List GroupShown) (alike : AreOfOneGroup slo
       let here = part_concerned s one first in
       let there = part_concerned t other second in
       let missed = missed_pair (is_concerned slots group) (twin_of slots group) (length slots) none s t less (reference_within t other.reference there.1) here.0 there.0 in
-      let nothing = none_map (λ reference. in_conflict slots group s t (causes.Twin reference)) (same_reference (reference_at slots s) (reference_at slots t)) missed in
+      let nothing = none_from_map (λ reference. in_conflict slots group s t (causes.Twin reference)) (same_reference (reference_at slots s) (reference_at slots t)) missed in
       same_found (reference_at slots s) (reference_at slots t) one.reference other.reference here.1 there.1 same nothing
 
   -- No two parts have one reference.

@@ -1,37 +1,37 @@
 -- Two copies that don't differ don't do so the other way round.
-use Rattle.std.proofs.Common.{◌≡◌, ℕ, Bool, true, false, not, ◌||◌, eqb, List, [], ◌∷◌, ◌++◌, map, Option, Some, None, refl, ap, sym, ◌∙◌}
-use Rattle.std.proofs.lemmas.Bool.{and_parts, eqb-true, eq-eqb}
+use Rattle.std.proofs.Common.{◌≡◌, ℕ, Bool, true, false, not, eqb, List, [], ◌∷◌, ◌++◌, map, Option, Some, None, refl, ap, sym, ◌∙◌}
+use Rattle.std.proofs.lemmas.Bool.{and_parts, eqb-true}
 use Rattle.std.proofs.lemmas.List.{map-append}
 use Rattle.std.specs.Cmp.{both_ways}
-use Rattle.std.specs.Prelude.{filter, find, is_none}
+use Rattle.std.specs.Prelude.{filter, is_none}
 use Rattle.std.specs.List.{AllByRecursion}
 use Rattle.std.specs.Option.{option_eq}
 use Rattle.std.specs.Ordering.{nat_cmp}
-use Rattle.std.specs.declared.cmp.Ordering.{Ordering}
 use Rattle.std.specs.Str.{bytes_eq}
 use Rattle.std.specs.Cmp.Lexicographic.{pointwise, slice_cmp}
+use Rattle.std.proofs.Math.Bool.{or_comm}
+use Rattle.std.proofs.lemmas.List.Elements.{filter_agree}
+use Rattle.ddf_lemmas.proofs.Lists.{all_fail, bytes_same, found_passes, none_passes}
+use Rattle.ddf_lemmas.proofs.Options.{none_from_map}
+use Rattle.ddf_lemmas.proofs.Tests.{eqb_turned}
 use Rattle.ddf_tables.specs.declared.disks.DiskEntry.{DiskEntry}
 use Rattle.ddf_tables.specs.declared.arrays.ArrayEntry.{ArrayEntry}
 use Rattle.ddf_config.specs.declared.element.Position.{Position}
 use Rattle.ddf_config.specs.ElementValue.{ElementValue as ElementPlan}
-use Rattle.ddf_bytes.proofs.Nones.{none_map}
 use Rattle.ddf_view.specs.View.{View, HeldRecord, find_held, is_element}
 use Rattle.ddf_view.specs.Reading.{plan_of}
 use Rattle.ddf_view.specs.Shows.{same_flag, same_plan, same_position}
 use Rattle.ddf_view.specs.Differ.{array_differs, difference, differing_arrays, differing_disks, differing_elements, disk_differs, element_difference, element_differs, held_differ, key_cmp, key_of, least, numbered_array, numbered_disk, same_array, same_disk, same_held, same_member_place, same_notes, same_record, told_kind}
 use Rattle.ddf_view.specs.declared.difference.Difference.TheVariants as differences
 use Rattle.ddf_view.proofs.Finds.{find_has}
-use Rattle.ddf_view.proofs.Tests.{same_bytes, bytes_same}
+use Rattle.ddf_view.proofs.Tests.{same_bytes}
+use Rattle.ddf_view.proofs.Common.{least_none}
 use Rattle.ddf_history.proofs.AnsweredLists.{or_none_first, or_none_second}
 
 -- ---- tests the other way round
 
--- Two numbers are the same the other way round.
-eqb_turned : (m n : ℕ) → eqb m n ≡ eqb n m
-eqb_turned m n = both_ways (eqb m n) (eqb n m) (λ same. eq-eqb n m (sym (eqb-true m n same))) (λ same. eq-eqb m n (sym (eqb-true n m same)))
-
 -- Two texts are.
-bytes_turned : (xs ys : List ℕ) → bytes_eq xs ys ≡ bytes_eq ys xs
+pub bytes_turned : (xs ys : List ℕ) → bytes_eq xs ys ≡ bytes_eq ys xs
 bytes_turned xs ys = both_ways (bytes_eq xs ys) (bytes_eq ys xs) (turned xs ys) (turned ys xs)
   where
     turned : (xs ys : List ℕ) → bytes_eq xs ys ≡ true → bytes_eq ys xs ≡ true
@@ -43,13 +43,6 @@ flag_turned true true = refl
 flag_turned true false = refl
 flag_turned false true = refl
 flag_turned false false = refl
-
--- One of two holds the other way round.
-or_turned : (a b : Bool) → (a || b) ≡ (b || a)
-or_turned true true = refl
-or_turned true false = refl
-or_turned false true = refl
-or_turned false false = refl
 
 -- Lists are the same item by item where their items are.
 pointwise_turned : {X : Type 0} (same : X → X → Bool) → ((x y : X) → same x y ≡ same y x) → (xs ys : List X) → pointwise same xs ys ≡ pointwise same ys xs
@@ -112,7 +105,7 @@ record_turned one other =
 
 -- What the notes say of two records is.
 notes_turned : (one other : HeldRecord) → same_notes one other ≡ same_notes other one
-notes_turned one other = rw (or_turned (is_none one.note) (is_none other.note), plan_turned (plan_of [] one.note one.element) (plan_of [] other.note other.element)) refl
+notes_turned one other = rw (or_comm (is_none one.note) (is_none other.note), plan_turned (plan_of [] one.note one.element) (plan_of [] other.note other.element)) refl
 
 -- Two records that are held are.
 held_turned : (one other : HeldRecord) → same_held one other ≡ same_held other one
@@ -138,36 +131,12 @@ none_in_both test (x ∷ xs) ys none also = go (λ rest. none_in_both test xs ys
     go later true is = absurd (let some : x ∷ filter test xs ≡ [] = rw is at none in cc)
     go later false is = rw is (later (rw is at none))
 
--- Each item fails where nothing is kept.
-each_fails : {X : Type 0} (test : X → Bool) (xs : List X) → filter test xs ≡ [] → AllByRecursion (λ x. test x ≡ false) xs
-each_fails test [] none = tt
-each_fails test (x ∷ xs) none = go (each_fails test xs) (test x) refl
-  where
-    go : (filter test xs ≡ [] → AllByRecursion (λ x. test x ≡ false) xs) → (b : Bool) → test x ≡ b → AllByRecursion (λ x. test x ≡ false) (x ∷ xs)
-    go later true is = absurd (let some : x ∷ filter test xs ≡ [] = rw is at none in cc)
-    go later false is = (is, later (rw is at none))
-
--- Two tests that give the same keep the same.
-filter_same : {X : Type 0} (test other : X → Bool) → ((x : X) → test x ≡ other x) → (xs : List X) → filter test xs ≡ filter other xs
-filter_same test other same [] = refl
-filter_same test other same (x ∷ xs) = rw (same x, filter_same test other same xs) refl
-
 -- What all images of a list have, each of its items has by its image.
 all_from_map : {X Y : Type 0} (f : X → Y) (P : Y → Type 0) (xs : List X) → AllByRecursion P (map f xs) → AllByRecursion (λ x. P (f x)) xs
 all_from_map f P [] all = tt
 all_from_map f P (x ∷ xs) all = (all.0, all_from_map f P xs all.1)
 
--- Nothing is kept where each item fails.
-none_kept : {X : Type 0} (test : X → Bool) → ((x : X) → test x ≡ false) → (xs : List X) → filter test xs ≡ []
-none_kept test fails [] = refl
-none_kept test fails (x ∷ xs) = rw (fails x, none_kept test fails xs) refl
-
 -- ---- no difference
-
--- A list without a least item is empty.
-least_none : {X : Type 0} (compare : X → X → Ordering) (xs : List X) → least compare xs ≡ None → xs ≡ []
-least_none compare [] none = refl
-least_none compare (x ∷ xs) none = absurd cc
 
 -- No disk, array or element differs.
 record DifferNot (one other : View) : Type 0 where
@@ -181,9 +150,9 @@ unfolding difference
 differ_not one other none =
     let behind = or_none_second _ _ none in
     record {
-      disks = least_none nat_cmp (differing_disks one.disks other.disks) (none_map differences.Disk (least nat_cmp (differing_disks one.disks other.disks)) (or_none_first _ _ none));
-      arrays = least_none (slice_cmp nat_cmp) (differing_arrays one.arrays other.arrays) (none_map differences.Array (least (slice_cmp nat_cmp) (differing_arrays one.arrays other.arrays)) (or_none_first _ _ behind));
-      elements = least_none key_cmp (differing_elements one.elements other.elements) (none_map element_difference (least key_cmp (differing_elements one.elements other.elements)) (or_none_first _ _ (or_none_second _ _ behind)));
+      disks = least_none nat_cmp (differing_disks one.disks other.disks) (none_from_map differences.Disk (least nat_cmp (differing_disks one.disks other.disks)) (or_none_first _ _ none));
+      arrays = least_none (slice_cmp nat_cmp) (differing_arrays one.arrays other.arrays) (none_from_map differences.Array (least (slice_cmp nat_cmp) (differing_arrays one.arrays other.arrays)) (or_none_first _ _ behind));
+      elements = least_none key_cmp (differing_elements one.elements other.elements) (none_from_map element_difference (least key_cmp (differing_elements one.elements other.elements)) (or_none_first _ _ (or_none_second _ _ behind)));
     }
 
 -- Copies that differ in nothing don't differ.
@@ -206,22 +175,10 @@ both_turned : {X Y : Type 0} (key : X → Y) (test turned : Y → Bool) → ((y 
 both_turned {Y = Y} key test turned same xs ys none =
     let apart : filter test (map key xs ++ map key ys) ≡ [] = ap (filter test) (sym (map-append key xs ys)) ∙ none in
     let both = none_of_both test (map key xs) (map key ys) apart in
-    let kept = λ (zs : List Y) (empty : filter test zs ≡ []). sym (filter_same test turned same zs) ∙ empty in
+    let kept = λ (zs : List Y) (empty : filter test zs ≡ []). sym (filter_agree test turned same zs) ∙ empty in
     ap (filter turned) (map-append key ys xs) ∙ none_in_both turned (map key ys) (map key xs) (kept (map key ys) both.1) (kept (map key xs) both.0)
 
 -- ---- elements
-
--- What is found passes.
-find_passes : {X : Type 0} (test : X → Bool) (xs : List X) (x : X) → find test xs ≡ Some x → test x ≡ true
-find_passes test [] x found = absurd cc
-find_passes test (y ∷ ys) x found = go (find_passes test ys x) (test y) refl
-  where
-    go : (find test ys ≡ Some x → test x ≡ true) → (b : Bool) → test y ≡ b → test x ≡ true
-    go later true is =
-        let one : Some y ≡ Some x = rw is at found in
-        let same : y ≡ x = cc in
-        ap test (sym same) ∙ is
-    go later false is = later (rw is at found)
 
 -- Where two records that are held don't differ, they don't the other way round.
 held_differ_turned : (o p : Option HeldRecord) → held_differ o p ≡ held_differ p o
@@ -237,7 +194,7 @@ element_alike one other fails array index = go (find_held array index one) refl
     go : (o : Option HeldRecord) → find_held array index one ≡ o → element_differs one other (array, index) ≡ false
     go None is = rw is refl
     go (Some held) is =
-        let passes = and_parts (bytes_eq held.element.array array) (eqb held.element.index index) (find_passes (is_element array index) one held is) in
+        let passes = and_parts (bytes_eq held.element.array array) (eqb held.element.index index) (found_passes (is_element array index) one held is) in
         let arrays : held.element.array ≡ array = same_bytes held.element.array array passes.0 in
         let indices : held.element.index ≡ index = eqb-true held.element.index index passes.1 in
         let here : element_differs one other (held.element.array, held.element.index) ≡ false = find_has (λ (one_held : HeldRecord). element_differs one other (key_of one_held) ≡ false) (is_element array index) one held (all_from_map key_of (λ key. element_differs one other key ≡ false) one fails) is in
@@ -247,9 +204,9 @@ element_alike one other fails array index = go (find_held array index one) refl
 pub difference_turned : (one other : View) → difference one other ≡ None → difference other one ≡ None
 difference_turned one other none =
     let nothing = differ_not one other none in
-    let fails = each_fails (element_differs one.elements other.elements) (map key_of one.elements) nothing.elements in
+    let fails = all_fail (element_differs one.elements other.elements) (map key_of one.elements) nothing.elements in
     no_difference other one (record {
       disks = both_turned (λ disk. disk.reference) (disk_differs one.disks other.disks) (disk_differs other.disks one.disks) (disk_differs_turned one.disks other.disks) one.disks other.disks nothing.disks;
       arrays = both_turned (λ entry. entry.guid) (array_differs one.arrays other.arrays) (array_differs other.arrays one.arrays) (array_differs_turned one.arrays other.arrays) one.arrays other.arrays nothing.arrays;
-      elements = none_kept (element_differs other.elements one.elements) (λ key. held_differ_turned (find_held key.0 key.1 other.elements) (find_held key.0 key.1 one.elements) ∙ element_alike one.elements other.elements fails key.0 key.1) (map key_of other.elements);
+      elements = none_passes (element_differs other.elements one.elements) (λ key. held_differ_turned (find_held key.0 key.1 other.elements) (find_held key.0 key.1 one.elements) ∙ element_alike one.elements other.elements fails key.0 key.1) (map key_of other.elements);
     })

@@ -12,7 +12,7 @@ use Rattle.ddf_history.proofs.Since.{which, first_is_copy, in_order, same_number
 use Rattle.ddf_history.proofs.Leading.{each_leading, some_leading, none_leading, same_leading, IsSome}
 
 -- What is seen of a slot is there, and the slot is readable.
-seen_at : {A : Type 0} (b : Bool) (shown : Shown A) (copy : A) → IsCopyOf (if b then shown else Nothing) copy → (b ≡ true) × IsCopyOf shown copy
+pub seen_at : {A : Type 0} (b : Bool) (shown : Shown A) (copy : A) → IsCopyOf (if b then shown else Nothing) copy → (b ≡ true) × IsCopyOf shown copy
 seen_at true shown copy is = (refl, is)
 seen_at false shown copy is = absurd is
 

@@ -1,16 +1,17 @@
 -- Recovery, changes and imports, from their parts.
 use Rattle.std.proofs.Common.{◌≡◌, ℕ, ◌<◌, ◌≤◌, ◌||◌, ◌&&◌, not, Bool, true, false, if◌then◌else◌, length, Some, slice_get, refl, sym, ap, ◌∙◌, inl, inr, ⊎_elim, arith, subst}
 use Rattle.std.proofs.lemmas.Bool.{cases_lt, cases_eq, and_from, and_left, or_from, or_parts}
+use Rattle.std.proofs.lemmas.Option.{slice_get_within}
+use Rattle.ddf_lemmas.proofs.Lists.{get_last}
 use Rattle.ddf_history.specs.Reading.{Reading, Scene, Shown, IsCopyOf, IsFirstOf, IsSound, stands}
-use Rattle.ddf_history.specs.Reading.Shown.{Nothing, One, Differ}
+use Rattle.ddf_history.specs.Reading.Shown.{Nothing, One}
 use Rattle.ddf_history.specs.Issued.{Changes, Past, IsSince, is_away, issued, issue, cut, take_off, leave_out}
 use Rattle.ddf_history.specs.Leaders.{seen}
 use Rattle.ddf_history.specs.Promise.{IsKept, IsNamed, IsOn, IsRight}
 use Rattle.ddf_history.specs.Answer.{IsClaimed}
 use Rattle.ddf_history.specs.Steps.{DoRemain, IsLast, MayFollow, NoneLater}
 use Rattle.ddf_history.specs.Calls.{IsAssembled, AreSure, AreSeated, NoneAbsent}
-use Rattle.ddf_history.proofs.Since.{which, first_is_copy, same_number, same_sequence_same, last_since, on_copy, on_shows}
-use Rattle.ddf_history.proofs.Lists.{get_last, get_within}
+use Rattle.ddf_history.proofs.Since.{which, first_is_copy, same_number, same_sequence_same, last_since, on_copy, on_shows, first_there}
 use Rattle.ddf_history.proofs.Assembling.{read_as}
 use Rattle.ddf_history.proofs.Issuing.{issued_kept, follows, joins, since_more}
 use Rattle.ddf_history.proofs.Cutting.{cut_kept, since_cut, cut_since, left_out_kept}
@@ -22,8 +23,8 @@ last_cut changes j c at = record { since = cut_since changes j j c at (omega ari
 -- A change that is issued is the last.
 pub last_issued : {r : Reading} (changes : Changes r) (last c : r.Config) → slice_get changes.issued changes.acked ≡ Some last → IsLast (issued changes c) (length changes.issued) c
 last_issued changes last c there = record {
-  since = let within = get_within changes.issued changes.acked last there in record { late = omega arith; is_there = get_last changes.issued c };
-  none_later = λ i d at. ⊎_elim (λ was. let within = get_within changes.issued i d was.is_there in omega arith) (λ is. omega (arith, is.0)) (since_more changes c i d at);
+  since = let within = slice_get_within changes.issued changes.acked last there in record { late = omega arith; is_there = get_last changes.issued c };
+  none_later = λ i d at. ⊎_elim (λ was. let within = slice_get_within changes.issued i d was.is_there in omega arith) (λ is. omega (arith, is.0)) (since_more changes c i d at);
 }
 
 -- A slot of which a copy is seen is readable.
@@ -36,12 +37,6 @@ pub seen_copy : {A : Type 0} (b : Bool) (shown : Shown A) (copy : A) → IsCopyO
 seen_copy true shown copy is = is
 seen_copy false shown copy is = absurd is
 
--- A slot that shows a copy has one by which its disk is known.
-first_of_some : {A : Type 0} (shown : Shown A) (copy : A) → IsCopyOf shown copy → (first : A) × IsFirstOf shown first
-first_of_some Nothing copy is = absurd is
-first_of_some (One found) copy is = (found, refl)
-first_of_some (Differ primary secondary) copy is = (primary, refl)
-
 -- A single copy is the one by which its disk is known.
 only_first : {A : Type 0} (shown : Shown A) (copy : A) → shown ≡ One copy → IsFirstOf shown copy
 only_first shown copy is = rw is refl
@@ -53,7 +48,7 @@ module _ (r : Reading) (sound : IsSound r) (past : Past r) (held : Scene r.Copy)
   pub claims : (s : ℕ) → is_away past s ≡ false → readable s ≡ true → r.has_current c (past.disk s) ≡ true → (copy : r.Copy) × IsClaimed r (seen readable held) s copy
   claims s here read now =
       let some = shows_some (assembled.is_kept.each s here) in
-      let first = first_of_some (held s) some.copy some.is_copy in
+      let first = first_there (held s) some.copy some.is_copy in
       let named = some.all first.0 (first_is_copy (held s) first.0 first.1) in
       let leader_is : leader.config ≡ c = same_number leader.number j leader.config c leader.since at number_is in
       let leading_read = seen_read (readable assembled.is_read.leader) (held assembled.is_read.leader) assembled.is_read.leading assembled.is_read.leads.is_copy in
@@ -191,7 +186,7 @@ module _ (r : Reading) (sound : IsSound r) (past : Past r) (held scene : Scene r
   cut_none_absent none = cut_at (seated_where_none_absent r past held readable j c assembled.is_kept at none)
 
 -- what was assembled stays so where what wasn't read counts as lost
-assembled_left_out : {r : Reading} (past : Past r) (held : Scene r.Copy) (readable : ℕ → Bool) (c : r.Config) → past.changes.own_from ≤ past.changes.acked → IsAssembled past held readable c → IsAssembled (leave_out past readable c) held readable c
+pub assembled_left_out : {r : Reading} (past : Past r) (held : Scene r.Copy) (readable : ℕ → Bool) (c : r.Config) → past.changes.own_from ≤ past.changes.acked → IsAssembled past held readable c → IsAssembled (leave_out past readable c) held readable c
 assembled_left_out {r} past held readable c own assembled = record {
   is_kept = left_out_kept past held readable c own assembled.is_kept;
   may_read = record {

@@ -1,12 +1,12 @@
 -- The copies that a change gives its seats are what is asked of copies that are written.
 use Rattle.std.proofs.Common.{◌≡◌, ℕ, true, [], refl}
 use Rattle.std.specs.Str.{bytes_eq}
+use Rattle.ddf_lemmas.proofs.Lists.{bytes_same}
 use Rattle.ddf_config.specs.Configuration.{Configuration}
 use Rattle.ddf_copy.specs.declared.copy.DiskCopy.{DiskCopy}
 use Rattle.ddf_copy.specs.Written.{CanBeCopy}
 use Rattle.ddf_view.specs.View.{view_of}
 use Rattle.ddf_view.proofs.Names.{names_differ}
-use Rattle.ddf_view.proofs.Tests.{bytes_same}
 use Rattle.ddf_rewrite.specs.Before.{Before}
 use Rattle.ddf_rewrite.specs.Changing.{CanChange}
 use Rattle.ddf_rewrite.specs.Copies.{changed_copy}

@@ -1,11 +1,12 @@
 -- Changes are acknowledged, or taken off.
 use Rattle.std.proofs.Common.{◌≡◌, ◌⊎◌, ℕ, ◌<◌, ◌≤◌, ◌+◌, ◌||◌, ◌&&◌, ◌==◌, not, Bool, true, false, Some, slice_get, refl, sym, ap, ◌∙◌, inl, inr, ⊎_elim, arith}
 use Rattle.std.proofs.lemmas.Bool.{cases_eq, or_parts, or_from, and_parts, eqb-true, true≢false}
+use Rattle.std.proofs.lemmas.Option.{same_Some}
 use Rattle.ddf_history.specs.Reading.{Reading, Scene, IsSound}
 use Rattle.ddf_history.specs.Issued.{Changes, Past, IsSince, IsChain, is_away, cut, take_off, acknowledged, acknowledge, with_slots, leave_out, lose, give_back}
 use Rattle.ddf_history.specs.Promise.{IsKept, IsOn, IsOutside, IsRight, IsStanding}
 use Rattle.ddf_history.specs.Steps.{NoneLater, AllShow, IsLast}
-use Rattle.ddf_history.proofs.Since.{which, some_is, in_order, same_number, last_since, on_shows}
+use Rattle.ddf_history.proofs.Since.{which, in_order, same_number, last_since, on_shows}
 use Rattle.ddf_history.proofs.Lists.{get_taken, taken_get}
 
 -- ---- the end of the list is taken off
@@ -143,7 +144,7 @@ module _ (r : Reading) (sound : IsSound r) (past : Past r) (scene : Scene r.Copy
 
   -- The acknowledged configuration is the last one.
   same_last : (d : r.Config) → slice_get after.issued after.acked ≡ Some d → d ≡ c
-  same_last d at = some_is d c (sym at ∙ at_last.since.is_there)
+  same_last d at = same_Some d c (sym at ∙ at_last.since.is_there)
 
   -- It is not older than the one that was acknowledged before.
   no_older : r.sequence kept.last ≤ r.sequence c

@@ -1,18 +1,20 @@
 -- Two copies that agree don't list one disk as missing and as current.
 use Rattle.std.proofs.Common.{◌≡◌, ℕ, ◌+◌, Bool, true, false, not, ◌||◌, eqb, List, [], ◌∷◌, ◌++◌, map, Option, Some, None, option_map, refl, ap, sym, ◌∙◌}
-use Rattle.std.proofs.lemmas.Bool.{and_parts, eqb-true, false≢true, true≢false}
+use Rattle.std.proofs.lemmas.Bool.{and_parts, eqb-true, false≢true, not-false}
 use Rattle.std.specs.Prelude.{filter, find, nat_eq}
 use Rattle.std.specs.List.{IsDistinct, enumerate_from}
-use Rattle.std.specs.Option.{option_eq, option_or}
-use Rattle.std.specs.declared.cmp.Ordering.{Ordering}
+use Rattle.std.specs.Option.{option_eq}
 use Rattle.std.specs.Ordering.{nat_cmp}
 use Rattle.std.specs.Str.{bytes_eq}
+use Rattle.ddf_lemmas.proofs.Options.{none_from_map, value_there}
 use Rattle.ddf_tables.specs.declared.disks.DiskEntry.{DiskEntry}
 use Rattle.ddf_view.specs.View.{View, entry_in, has_bit, is_missing, lists_current, lists_missing}
 use Rattle.ddf_view.specs.Differ.{difference, differing_disks, disk_differs, least, numbered_disk, same_disk, told_kind}
 use Rattle.ddf_view.specs.declared.difference.Difference.TheVariants as differences
 use Rattle.ddf_view.proofs.Tests.{same_bytes, and_five}
-use Rattle.ddf_history.proofs.Listed.{has_reference, is_entry, none_behind, value_there}
+use Rattle.ddf_view.proofs.Common.{least_none}
+use Rattle.ddf_history.proofs.Listed.{has_reference, is_entry, none_behind}
+use Rattle.ddf_history.proofs.AnsweredLists.{or_none_first}
 
 -- ---- the entries of one reference
 
@@ -70,25 +72,10 @@ placed test n (disk ∷ disks) = go (placed test (n + 1) disks) (test disk) refl
 
 -- ---- what no difference says
 
--- Nothing is made of nothing alone.
-map_none : {X Y : Type 0} (f : X → Y) (o : Option X) → option_map f o ≡ None → o ≡ None
-map_none f None none = refl
-map_none f (Some x) none = absurd cc
-
--- Where neither of two values is there, the first is not.
-or_none : {X : Type 0} (o p : Option X) → option_or o p ≡ None → o ≡ None
-or_none None p none = refl
-or_none (Some x) p none = absurd cc
-
--- A list without a least item is empty.
-least_none : {X : Type 0} (compare : X → X → Ordering) (xs : List X) → least compare xs ≡ None → xs ≡ []
-least_none compare [] none = refl
-least_none compare (x ∷ xs) none = absurd cc
-
 -- no difference is none in a disk
 no_disk_differs : (one other : View) → difference one other ≡ None → differing_disks one.disks other.disks ≡ []
 unfolding difference
-no_disk_differs one other none = least_none nat_cmp (differing_disks one.disks other.disks) (map_none differences.Disk (least nat_cmp (differing_disks one.disks other.disks)) (or_none _ _ none))
+no_disk_differs one other none = least_none nat_cmp (differing_disks one.disks other.disks) (none_from_map differences.Disk (least nat_cmp (differing_disks one.disks other.disks)) (or_none_first _ _ none))
 
 -- a reference among the first of two tables is tested
 each_tested : (test : ℕ → Bool) (disks others : List DiskEntry) (reference : ℕ) (entry : DiskEntry) → filter test (map (λ disk. disk.reference) (disks ++ others)) ≡ [] → find (has_reference reference) disks ≡ Some entry → test reference ≡ false
@@ -101,11 +88,6 @@ each_tested test (disk ∷ disks) others reference entry none found = go (each_t
     go later false false is same = later (rw is at none) (rw same at found)
 
 -- ---- the entries of one disk in two copies that agree
-
--- What is false when turned is true.
-not_true : (b : Bool) → not b ≡ false → b ≡ true
-not_true true h = refl
-not_true false h = absurd (true≢false h)
 
 -- where one of two values is there, and they are the same, so is the other
 both_there : {X : Type 0} (same : X → X → Bool) (one other : Option X) (x : X) → one ≡ Some x → option_eq same one other ≡ true → (y : X) × (other ≡ Some y) × (same x y ≡ true)
@@ -127,7 +109,7 @@ alike_entry : (one other : View) (reference : ℕ) (entry : DiskEntry) → diffe
     → (second : DiskEntry) × (find (has_reference reference) other.disks ≡ Some second) × AreAlike entry second
 alike_entry one other reference entry none found =
     let tested : disk_differs one.disks other.disks reference ≡ false = each_tested (disk_differs one.disks other.disks) one.disks other.disks reference entry (no_disk_differs one other none) found in
-    let equal = not_true (option_eq same_disk (numbered_disk reference one.disks) (numbered_disk reference other.disks)) tested in
+    let equal = not-false (option_eq same_disk (numbered_disk reference one.disks) (numbered_disk reference other.disks)) tested in
     let first = placed_there (numbered_disk reference one.disks) entry (placed (has_reference reference) 0 one.disks ∙ found) in
     let second = both_there same_disk (numbered_disk reference one.disks) (numbered_disk reference other.disks) first.0 first.1 equal in
     let parts = and_five (eqb first.0.0 second.0.0) (bytes_eq first.0.1.guid second.0.1.guid) (eqb (told_kind first.0.1) (told_kind second.0.1)) (eqb first.0.1.state.0 second.0.1.state.0) (eqb first.0.1.size second.0.1.size) second.2 in

@@ -1,6 +1,6 @@
 -- A change may follow the configuration that it changes.
 use Rattle.std.proofs.Common.{◌≡◌, ℕ, ◌<◌, Bool, true, false, not, ◌&&◌, ◌||◌, eqb, List, [], ◌∷◌, Option, Some, refl, ap, sym, ◌∙◌}
-use Rattle.std.proofs.lemmas.Bool.{and_from, and_parts, eq-eqb, eqb-true, false≢true}
+use Rattle.std.proofs.lemmas.Bool.{and_from, and_parts, eq-eqb, eqb-true, false≢true, or_right}
 use Rattle.std.specs.Map.{lookup}
 use Rattle.std.specs.Option.{option_map_or}
 use Rattle.std.specs.Str.{bytes_eq}
@@ -21,10 +21,6 @@ use Rattle.ddf_history.specs.Steps.{MayFollow}
 record IsSameMember (before after : Member) : Type 0 where
   guid : after.guid ≡ before.guid
   missing : before.missing ≡ true → after.missing ≡ true
-
-or_right : (a b : Bool) → b ≡ true → (a || b) ≡ true
-or_right true b is = refl
-or_right false b is = is
 
 -- Each change keeps each member.
 member_kept : (config : Configuration) (change : Change) (reference : ℕ) (member : Member) → (after : Member) × (Some (member_after config change reference member) ≡ Some after) × IsSameMember member after

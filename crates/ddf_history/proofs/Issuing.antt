@@ -1,12 +1,14 @@
 -- A change is issued.
 use Rattle.std.proofs.Common.{◌≡◌, ◌≢◌, ◌⊎◌, ℕ, ◌<◌, ◌≤◌, ◌∷◌, [], true, false, length, Some, slice_get, refl, sym, ap, ◌∙◌, inl, inr, ⊎_elim, arith}
 use Rattle.std.proofs.lemmas.Bool.{and_from, true≢false}
+use Rattle.std.proofs.lemmas.Option.{same_Some, slice_get_within}
+use Rattle.ddf_lemmas.proofs.Lists.{first_get}
 use Rattle.ddf_history.specs.Reading.{Reading, Scene, Shown, ShowsGroup, IsCopyOf, IsSound}
 use Rattle.ddf_history.specs.Issued.{Changes, Past, IsSince, IsChain, is_away, issued, issue}
 use Rattle.ddf_history.specs.Promise.{IsKept, IsNamed, IsOn, IsOutside, IsLagging, IsStanding}
 use Rattle.ddf_history.specs.Steps.{DoRemain, IsLast, MayFollow, MayJoin}
-use Rattle.ddf_history.proofs.Since.{some_is, in_order, same_number, last_since, on_shows}
-use Rattle.ddf_history.proofs.Lists.{get_more, get_kept, get_within}
+use Rattle.ddf_history.proofs.Since.{in_order, same_number, last_since, on_shows}
+use Rattle.ddf_history.proofs.Lists.{get_more}
 
 -- What a change owes to what was issued before it, and to what the slots show.
 pub record MayIssue {r : Reading} (past : Past r) (scene : Scene r.Copy) (c : r.Config) : Type 0 where
@@ -32,11 +34,11 @@ module _ {r : Reading} (changes : Changes r) (c : r.Config) where
 
   -- What was issued stays so.
   pub since_kept : (i : ℕ) (d : r.Config) → IsSince changes i d → IsSince (issued changes c) i d
-  since_kept i d at = record { late = at.late; is_there = get_kept changes.issued (c ∷ []) i d at.is_there }
+  since_kept i d at = record { late = at.late; is_there = first_get changes.issued (c ∷ []) i d at.is_there }
 
   -- What was issued has a number below that of the new change.
   pub since_before : (i : ℕ) (d : r.Config) → IsSince changes i d → i < length changes.issued
-  since_before i d at = get_within changes.issued i d at.is_there
+  since_before i d at = slice_get_within changes.issued i d at.is_there
 
 module _ (r : Reading) (sound : IsSound r) (past : Past r) (scene : Scene r.Copy) (kept : IsKept past scene) (c : r.Config) (may : MayIssue past scene c) where
   -- The changes with the new one.
@@ -88,7 +90,7 @@ module _ (r : Reading) (sound : IsSound r) (past : Past r) (scene : Scene r.Copy
 
   -- The last acknowledged configuration stays.
   last_is : (d : r.Config) → slice_get next.issued next.acked ≡ Some d → d ≡ kept.last
-  last_is d at = some_is d kept.last (sym at ∙ get_kept past.changes.issued (c ∷ []) past.changes.acked kept.last kept.is_last)
+  last_is d at = same_Some d kept.last (sym at ∙ first_get past.changes.issued (c ∷ []) past.changes.acked kept.last kept.is_last)
 
   -- A slot that shows a configuration goes on to show it.
   abbrev on_next : (disk : r.Disk) (shown : Shown r.Copy) → IsOn past.changes disk shown → IsOn next disk shown
@@ -179,7 +181,7 @@ module _ (r : Reading) (sound : IsSound r) (past : Past r) (scene : Scene r.Copy
   pub issued_kept : IsKept (issue past c) scene
   issued_kept = record {
     last = kept.last;
-    is_last = get_kept past.changes.issued (c ∷ []) past.changes.acked kept.last kept.is_last;
+    is_last = first_get past.changes.issued (c ∷ []) past.changes.acked kept.last kept.is_last;
     own_next = kept.own_next;
     chain = chain_next;
     each = λ s here. ⊎_elim
@@ -236,11 +238,11 @@ follows r past scene kept j last c at may remains = record {
   gone = λ s back. may.stays_missing (past.disk s) (kept.gone s j last back at.since);
   remain = λ first joined s is_first now fresh here native. ⊎_elim
       (λ acked.
-      let same : last ≡ first = some_is last first (sym at.since.is_there ∙ ap (slice_get past.changes.issued) acked ∙ is_first) in
+      let same : last ≡ first = same_Some last first (sym at.since.is_there ∙ ap (slice_get past.changes.issued) acked ∙ is_first) in
       let was : r.has_current last joined ≡ true = may.no_more joined now in
       absurd (true≢false (sym was ∙ ap (λ (x : r.Config). r.has_current x joined) same ∙ fresh)))
       (λ stays.
-      let same : kept.last ≡ first = some_is kept.last first (sym kept.is_last ∙ is_first) in
+      let same : kept.last ≡ first = same_Some kept.last first (sym kept.is_last ∙ is_first) in
       stays s here (kept.remain j last joined s at.since (may.no_more joined now) (ap (λ (x : r.Config). r.has_current x joined) same ∙ fresh) here (ap (λ (x : r.Config). r.has_current x (past.disk s)) same ∙ native)))
       remains;
 }
@@ -260,7 +262,7 @@ joins r past scene kept last c at may = record {
   named = may.named;
   alone = may.alone;
   gone = may.gone;
-  remain = λ first joined s is_first now fresh here native. may.keeps (past.disk s) (rw (some_is first last (sym is_first ∙ at.since.is_there)) at native);
+  remain = λ first joined s is_first now fresh here native. may.keeps (past.disk s) (rw (same_Some first last (sym is_first ∙ at.since.is_there)) at native);
 }
   where
     only : (i : ℕ) (d : r.Config) → IsSince past.changes i d → d ≡ last

@@ -23,3 +23,4 @@ pub mod AnsweredConfig
 pub mod Answered
 pub mod AnsweredRead
 pub mod Members
+pub mod Common

@@ -1,6 +1,6 @@
 -- What a copy lists of a disk is what a configuration has of it that the copy shows.
-use Rattle.std.proofs.Common.{◌≡◌, ℕ, Bool, true, false, not, ◌&&◌, cond, eqb, List, [], ◌∷◌, map, Option, Some, None, refl, ap, sym, ◌∙◌}
-use Rattle.std.proofs.lemmas.Bool.{and_parts, eqb-true, eq-eqb, false≢true, true≢false}
+use Rattle.std.proofs.Common.{◌≡◌, ℕ, Bool, true, false, not, ◌&&◌, cond, eqb, List, [], ◌∷◌, map, Some, None, refl, ap, sym, ◌∙◌}
+use Rattle.std.proofs.lemmas.Bool.{and_parts, eqb-true, eq-eqb, false≢true, true≢false, cond-false}
 use Rattle.std.specs.Prelude.{find, nat_eq}
 use Rattle.std.specs.List.{AllByRecursion, IsDistinct}
 use Rattle.std.specs.Map.{lookup}
@@ -15,13 +15,7 @@ use Rattle.ddf_view.specs.Shows.{same_flag, gives_array, gives_elements, gives_m
 use Rattle.std.specs.List.{list_all}
 use Rattle.ddf_view.proofs.Tests.{same_bytes, and_four, and_five}
 use Rattle.ddf_view.proofs.Shown.{flag_same}
-use Rattle.ddf_view.proofs.Finds.{when_false}
 use Rattle.ddf_history.specs.Groups.{Disk, Shows, has_current, has_missing}
-
--- what is there of a value passes
-pub value_there : {X : Type 0} (test : X → Bool) (o : Option X) → option_map_or test o false ≡ true → (x : X) × (o ≡ Some x) × (test x ≡ true)
-value_there test None passes = absurd (false≢true passes)
-value_there test (Some x) passes = (x, refl, passes)
 
 -- the entry of a disk by its reference alone
 abbrev pub has_reference : (reference : ℕ) → DiskEntry → Bool
@@ -36,7 +30,7 @@ pub none_behind : (guid : List ℕ) (reference own : ℕ) (disks : List DiskEntr
 none_behind guid reference own [] same others = refl
 none_behind guid reference own (disk ∷ disks) same others =
     let apart : is_entry guid reference disk ≡ false = go (eqb disk.reference reference) refl in
-    when_false (is_entry guid reference disk) (Some disk) (find (is_entry guid reference) disks) apart ∙ none_behind guid reference own disks same others.1
+    cond-false (is_entry guid reference disk) (Some disk) (find (is_entry guid reference) disks) apart ∙ none_behind guid reference own disks same others.1
   where
     go : (b : Bool) → eqb disk.reference reference ≡ b → is_entry guid reference disk ≡ false
     go false is = ap (λ (b : Bool). b && bytes_eq disk.guid guid) is

@@ -8,23 +8,6 @@ get_more [] x (suc i) y e = absurd cc
 get_more (z ∷ xs) x zero y e = inl e
 get_more (z ∷ xs) x (suc i) y e = ⊎_elim inl (λ last. inr (ap suc last.0, last.1)) (get_more xs x i y e)
 
--- An element of a list stays where it is when others go behind it.
-pub get_kept : {A : Type 0} (xs ys : List A) (i : ℕ) (y : A) → slice_get xs i ≡ Some y → slice_get (xs ++ ys) i ≡ Some y
-get_kept [] ys i y e = absurd cc
-get_kept (z ∷ xs) ys zero y e = e
-get_kept (z ∷ xs) ys (suc i) y e = get_kept xs ys i y e
-
--- An element that goes behind a list stands at its old length.
-pub get_last : {A : Type 0} (xs : List A) (x : A) → slice_get (xs ++ x ∷ []) (length xs) ≡ Some x
-get_last [] x = refl
-get_last (z ∷ xs) x = get_last xs x
-
--- An element stands below the length.
-pub get_within : {A : Type 0} (xs : List A) (i : ℕ) (y : A) → slice_get xs i ≡ Some y → i < length xs
-get_within [] i y e = absurd cc
-get_within (z ∷ xs) zero y e = omega arith
-get_within (z ∷ xs) (suc i) y e = let lt = get_within xs i y e in omega arith
-
 -- An element of the first ones of a list is one of the list, below their number.
 pub get_taken : {A : Type 0} (xs : List A) (n i : ℕ) (y : A) → slice_get (take n xs) i ≡ Some y → (slice_get xs i ≡ Some y) × (i < n)
 get_taken xs zero i y e = absurd cc

@@ -1,6 +1,7 @@
 -- The configurations since the last acknowledged one, by their order.
-use Rattle.std.proofs.Common.{◌≡◌, ◌⊎◌, ℕ, ◌<◌, ◌≤◌, Bool, true, false, Some, slice_get, refl, sym, ap, ◌∙◌, inl, inr, arith, subst}
+use Rattle.std.proofs.Common.{◌≡◌, ◌⊎◌, ℕ, ◌<◌, ◌≤◌, Bool, true, false, slice_get, refl, sym, ap, ◌∙◌, inl, inr, arith, subst}
 use Rattle.std.proofs.lemmas.Bool.{cases_eq, cases_lt}
+use Rattle.std.proofs.lemmas.Option.{same_Some}
 use Rattle.ddf_history.specs.Reading.{Reading, Scene, Shown, IsCopyOf, IsFirstOf}
 use Rattle.ddf_history.specs.Reading.Shown.{Nothing, One, Differ}
 use Rattle.ddf_history.specs.Issued.{Changes, Past, IsSince, IsChain}
@@ -10,10 +11,6 @@ use Rattle.ddf_history.specs.Promise.{IsKept, IsOn}
 pub which : (b : Bool) → (b ≡ true) ⊎ (b ≡ false)
 which true = inl refl
 which false = inr refl
-
--- What is there is one thing.
-pub some_is : {A : Type 0} (x y : A) → Some x ≡ Some y → x ≡ y
-some_is x y e = cc
 
 -- The copy by which a disk is known is one of those that its slot shows.
 pub first_is_copy : {A : Type 0} (shown : Shown A) (copy : A) → IsFirstOf shown copy → IsCopyOf shown copy
@@ -30,7 +27,7 @@ first_there (Differ primary secondary) copy is = (primary, refl)
 module _ {r : Reading} {changes : Changes r} where
   -- One configuration has a number.
   pub same_number : (i j : ℕ) (c d : r.Config) → IsSince changes i c → IsSince changes j d → i ≡ j → c ≡ d
-  same_number i j c d at there same = some_is c d (sym at.is_there ∙ ap (slice_get changes.issued) same ∙ there.is_there)
+  same_number i j c d at there same = same_Some c d (sym at.is_there ∙ ap (slice_get changes.issued) same ∙ there.is_there)
 
   -- A later configuration has no lesser sequence.
   pub in_order : IsChain changes → (i j : ℕ) (c d : r.Config) → IsSince changes i c → IsSince changes j d → i ≤ j → r.sequence c ≤ r.sequence d

@@ -4,6 +4,7 @@ use Rattle.std.proofs.lemmas.Bool.{and_parts, true≢false}
 use Rattle.std.specs.List.{AllByRecursion}
 use Rattle.std.specs.Map.{lookup}
 use Rattle.std.specs.Str.{bytes_eq}
+use Rattle.ddf_lemmas.proofs.Options.{value_there}
 use Rattle.ddf_config.specs.declared.member.Member.{Member}
 use Rattle.ddf_config.specs.Configuration.{Configuration}
 use Rattle.ddf_view.specs.View.{View}
@@ -14,7 +15,7 @@ use Rattle.ddf_view.proofs.Tests.{same_bytes}
 use Rattle.ddf_history.specs.Reading.{IsSound, Each}
 use Rattle.ddf_history.specs.Groups.{Disk, ShowsFully, groups, has_current, has_missing, is_member, read_leaders}
 use Rattle.ddf_history.proofs.Differing.{agreeing_list_alike}
-use Rattle.ddf_history.proofs.Listed.{current_alike, gives_tables, missing_alike, value_there}
+use Rattle.ddf_history.proofs.Listed.{current_alike, gives_tables, missing_alike}
 
 -- ---- the members of a configuration
 

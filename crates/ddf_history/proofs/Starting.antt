@@ -1,6 +1,7 @@
 -- The start of a history: a group that was founded, or one from elsewhere.
 use Rattle.std.proofs.Common.{◌≡◌, ◌≢◌, ℕ, zero, suc, ◌<◌, ◌≤◌, ◌==◌, ◌&&◌, ◌∷◌, [], Bool, not, true, false, if◌then◌else◌, Some, slice_get, refl, sym, ap, ◌∙◌, inl, inr, ⊎_elim, arith, subst}
 use Rattle.std.proofs.lemmas.Bool.{cases_eq, and_from, and_parts, eqb-true, eq-eqb, or_from}
+use Rattle.std.proofs.lemmas.Option.{same_Some}
 use Rattle.ddf_history.specs.Reading.{Reading, Scene, Shown, IsCopyOf, IsFirstOf, IsSound, stands}
 use Rattle.ddf_history.specs.Reading.Shown.{Nothing, One, Differ}
 use Rattle.ddf_history.specs.Issued.{Past, IsSince, IsChain, is_away}
@@ -8,12 +9,12 @@ use Rattle.ddf_history.specs.Leaders.{seen, leading_copy, leading_copies}
 use Rattle.ddf_history.specs.Promise.{IsKept, IsOn, IsOutside, IsLagging, IsRight}
 use Rattle.ddf_history.specs.Answer.{IsLeader, IsPart}
 use Rattle.ddf_history.specs.Calls.{IsStart, IsFounded, IsFound}
-use Rattle.ddf_history.proofs.Since.{first_is_copy, first_there, some_is, which}
+use Rattle.ddf_history.proofs.Since.{first_is_copy, first_there, which}
 use Rattle.ddf_history.proofs.Leading.{same_leading}
 
 -- A list of one element has no other.
 only_one : {A : Type 0} (x y : A) (i : ℕ) → slice_get (x ∷ []) i ≡ Some y → (i ≡ 0) × (y ≡ x)
-only_one x y zero e = (refl, some_is y x (sym e))
+only_one x y zero e = (refl, same_Some y x (sym e))
 only_one x y (suc i) e = absurd cc
 
 module _ (r : Reading) (sound : IsSound r) (past : Past r) (scene : Scene r.Copy) (c : r.Config) (start : IsStart past c) where
@@ -58,7 +59,7 @@ module _ (r : Reading) (sound : IsSound r) (past : Past r) (scene : Scene r.Copy
 
   -- The last acknowledged configuration is the first one.
   last_c : (d : r.Config) → slice_get past.changes.issued past.changes.acked ≡ Some d → d ≡ c
-  last_c d at = some_is d c (sym at ∙ first_is)
+  last_c d at = same_Some d c (sym at ∙ first_is)
 
   -- ---- a new group
 

@@ -3,6 +3,7 @@ use Rattle.std.proofs.Common.{◌≡◌, ℕ, Bool, true, false, not, ◌∙◌,
 use Rattle.std.proofs.lemmas.Bool.{and_parts}
 use Rattle.std.specs.Prelude.{IfSome, slice_get}
 use Rattle.std.specs.List.{AllByRecursion, IsDistinct, cons_option, list_any}
+use Rattle.ddf_lemmas.proofs.Lists.{all_from, filter_get, filter_pass}
 use Rattle.ddf_bay.specs.State.{BayState}
 use Rattle.ddf_tables.specs.declared.disks.DiskEntry.{DiskEntry}
 use Rattle.ddf_copy.specs.declared.newest_copy.Newest.{Newest}
@@ -20,15 +21,14 @@ use Rattle.ddf_group.specs.Conflicts.{contradiction}
 use Rattle.ddf_group.specs.Names.{AreNamed, IsNamed}
 use Rattle.ddf_group.specs.Shown.{shown_of}
 use Rattle.ddf_group.specs.Slots.{claimed, leaders, leads, numbers, slot_at, view_in}
-use Rattle.ddf_rewrite.proofs.Lists.{all_at, all_by_get, all_mapped}
+use Rattle.ddf_group.proofs.Named.{named_at}
+use Rattle.ddf_rewrite.proofs.Lists.{all_at, all_mapped}
 use Rattle.ddf_rewrite.proofs.ReadCan.{same_names}
 use Rattle.ddf_seats.specs.Group.{GroupValue}
-use Rattle.ddf_seats.proofs.Lists.{filter_get, filter_pass}
 use Rattle.ddf_assembly.specs.Group.{group_as, group_of, group_or_fault}
 use Rattle.ddf_assembly.specs.Slots.{newest_from}
 use Rattle.ddf_assembly.proofs.AssembledLists.{first_of_reference}
 use Rattle.ddf_assembly.proofs.ClaimedLeaders.{leader_view}
-use Rattle.ddf_assembly.proofs.SettledLeaders.{named_at}
 use Rattle.ddf_history_behind.specs.Behind.{AbsentAreCurrent}
 use Rattle.ddf_history_behind.proofs.Named.{are_named}
 
@@ -65,7 +65,7 @@ module _ (slots : List Shown) (named : AreNamed slots) (guid : List ℕ) (none :
         → AllByRecursion (λ reference. is_current config.members reference ≡ true) (absent slots seats members)
     current_each members each =
         all_mapped (λ (reference : ℕ). is_current config.members reference ≡ true) (λ (entry : ℕ × Member). entry.0) (filter (is_absent slots seats) members)
-        (all_by_get (λ (entry : ℕ × Member). is_current config.members entry.0 ≡ true) (filter (is_absent slots seats) members)
+        (all_from (λ (entry : ℕ × Member). is_current config.members entry.0 ≡ true) (filter (is_absent slots seats) members)
         (λ k entry at.
         let passes = all_at (λ (one : ℕ × Member). is_absent slots seats one ≡ true) (filter (is_absent slots seats) members) k entry (filter_pass (is_absent slots seats) members) at in
         let place = filter_get (is_absent slots seats) members k entry at in

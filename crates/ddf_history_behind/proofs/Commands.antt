@@ -1,6 +1,6 @@
 -- What a command issues is near: the loss of absent members first, and then what each step makes of the configuration before it.
-use Rattle.std.proofs.Common.{◌≡◌, ◌∙◌, ℕ, ◌+◌, ◌<◌, ◌≤◌, ◌==◌, ◌&&◌, ◌||◌, not, cond, nat_lt, Bool, true, false, List, [], ◌∷◌, ◌++◌, map, filter, Option, Some, None, Ok, if◌then◌else◌, refl, ap, sym, subst, arith}
-use Rattle.std.proofs.lemmas.Bool.{eq-eqb, false≢true, ltb-false, ne_eqb}
+use Rattle.std.proofs.Common.{◌≡◌, ◌∙◌, ℕ, ◌+◌, ◌<◌, ◌≤◌, ◌&&◌, ◌||◌, nat_lt, Bool, true, false, List, [], ◌∷◌, ◌++◌, Option, Some, None, Ok, if◌then◌else◌, refl, ap, sym, subst, arith}
+use Rattle.std.proofs.lemmas.Bool.{eq-eqb, false≢true, ltb-false}
 use Rattle.std.specs.Prelude.{option_to_list}
 use Rattle.std.specs.List.{AllByRecursion}
 use Rattle.ddf_config.specs.declared.refusal.Refusal.{Refusal}
@@ -11,54 +11,20 @@ use Rattle.ddf_plan.specs.Lose.{is_among}
 use Rattle.ddf_plan.specs.Refusals.{greatest_sequence}
 use Rattle.ddf_seats.specs.Group.{GroupValue}
 use Rattle.ddf_seats.specs.Leading.{some}
-use Rattle.ddf_steps.specs.Ready.{AreNumbered}
 use Rattle.ddf_steps.specs.Steps.{Step}
 use Rattle.ddf_recovery.specs.Ready.{readied}
 use Rattle.ddf_recovery.specs.Recovery.{config_lost, config_recovered, disks_recovered, loss_spent, lost_step, mending_step, recovery_of}
-use Rattle.ddf_recovery.proofs.CommittedReadied.{raised_more}
-use Rattle.ddf_recovery.proofs.Numbered.{steps_numbered}
+use Rattle.ddf_recovery.proofs.Numbered.{steps_numbered, raised_above}
 use Rattle.ddf_recovery.proofs.ReadiedSteps.{are_tried, behind, loss_rises, none_spent, steps_are}
 use Rattle.ddf_joining.specs.Joining.{Joining, join_config, join_refusal, join_spent, join_step, joining, joining_of, joining_unless}
 use Rattle.ddf_history_steps.specs.Going.{changes_in}
 use Rattle.ddf_history_steps.specs.Steps.{recovery_changes}
 use Rattle.ddf_history_steps.proofs.Recovering.{lost_changes, no_changes}
+use Rattle.ddf_history_steps.proofs.LastStep.{AreAbove, configs, first_issued, above_issued, numbered_above}
 use Rattle.ddf_history_behind.specs.Behind.{AbsentAreCurrent, AreNearSteps, LosesSome, most_between}
 use Rattle.ddf_history_behind.proofs.InTurn.{AreNearOn}
 use Rattle.ddf_history_behind.proofs.Recovering.{first_absent}
 use Rattle.ddf_history_behind.proofs.Steps.{first_among, loses_near, raised_most, steps_near}
-
--- what steps make of the configuration, one after another
-abbrev configs : List Step → List Configuration
-configs steps = map (λ (step : Step). step.config) steps
-
--- ---- the steps that issue a change
-
--- The sequence number of each of these steps is greater.
-abbrev AreAbove : ℕ → List Step → Type 0
-AreAbove sequence = AllByRecursion (λ (step : Step). sequence < step.config.sequence)
-
-numbered_above : (first sequence : ℕ) (steps : List Step) → first ≤ sequence → AreNumbered sequence steps → AreAbove first steps
-numbered_above first sequence [] le are = tt
-numbered_above first sequence (step ∷ steps) le are =
-    let more = are.0 in
-    (omega (arith, le, more), numbered_above first step.config.sequence steps (omega (arith, le, more)) are.2)
-
--- whether a step raises the sequence number
-abbrev raises : GroupValue → Step → Bool
-raises found step = not (step.config.sequence == found.config.sequence)
-
-first_issued : (found : GroupValue) (step : Step) (others : List Step) (same : Bool) → (step.config.sequence == found.config.sequence) ≡ same
-    → changes_in found (step ∷ others) ≡ (if same then changes_in found others else step.config ∷ changes_in found others)
-first_issued found step others true is = ap (λ (same : Bool). configs (cond (not same) (step ∷ filter (raises found) others) (filter (raises found) others))) is
-first_issued found step others false is = ap (λ (same : Bool). configs (cond (not same) (step ∷ filter (raises found) others) (filter (raises found) others))) is
-
--- Where all do each of them is issued.
-above_issued : (found : GroupValue) (steps : List Step) → AreAbove found.config.sequence steps → changes_in found steps ≡ configs steps
-above_issued found [] above = refl
-above_issued found (step ∷ steps) above =
-    let more = above.0 in
-    first_issued found step steps false (ne_eqb step.config.sequence found.config.sequence (λ same. omega (arith, more, same)))
-    ∙ ap (λ (others : List Configuration). step.config ∷ others) (above_issued found steps above.1)
 
 -- ---- the loss
 
@@ -167,7 +133,7 @@ module _ (native : GroupValue) (current : AbsentAreCurrent native) (other : Grou
   rises absent =
       let free = neither (loss_spent native) (nat_lt greatest_sequence (join_config native other).sequence) unspent.0 in
       let below : nat_lt greatest_sequence (config_lost native).sequence ≡ false = sym (ap (λ (b : Bool). b && nat_lt greatest_sequence (config_lost native).sequence) absent) ∙ free in
-      raised_more native.config.sequence 2 (omega arith) (ltb-false greatest_sequence (config_lost native).sequence below)
+      raised_above native.config.sequence 2 (omega arith) (ltb-false greatest_sequence (config_lost native).sequence below)
 
   made_is : join_config native other ≡ made.step.config
   unfolding join_step

@@ -21,6 +21,7 @@ use Rattle.ddf_history_steps.specs.Going.{Goes, IsOver, IsUnderway, KeepsHistory
 use Rattle.ddf_history_steps.specs.Kept.{AreAllKept, is_read}
 use Rattle.ddf_history_steps.specs.Steps.{KeepsStep, with_next}
 use Rattle.ddf_history_steps.proofs.CommittingGoes.{change_goes}
+use Rattle.ddf_history_steps.proofs.Course.{configs_of}
 use Rattle.ddf_history_behind.specs.Behind.{AreNear, AreNearSteps, IsNearWay, KeepsNear, most_between}
 use Rattle.ddf_history_behind.proofs.Near.{near_issued, near_last, only_last}
 
@@ -77,9 +78,6 @@ module _ (group : List ℕ) (past : Past (groups group)) (readable : ℕ → Boo
         (change_goes group past readable found over.number over.since first next (over.number + length first) (inr (omega arith)) (omega arith)))))
 
 -- ---- the course
-
-abbrev configs_of : List ReadyStep → List Configuration
-configs_of steps = map (λ (one : ReadyStep). one.step.config) steps
 
 module _ (group : List ℕ) {D : Type 0} (old middle : BayState D) (past : Past (groups group)) (left : List Bool) (found : GroupValue) (changes : List Configuration)
     (now_found : GroupValue) (ready : ReadyValue) (near_way : IsNearWay group old middle past left found changes now_found ready) where

@@ -3,13 +3,14 @@ use Rattle.std.proofs.Common.{◌≡◌, ◌⊎◌, ℕ, zero, suc, ◌+◌, ◌
 use Rattle.std.proofs.lemmas.Bool.{cases_lt}
 use Rattle.std.proofs.lemmas.List.{length-take-le}
 use Rattle.std.specs.List.{AllByRecursion}
+use Rattle.std.proofs.lemmas.Option.{same_Some, slice_get_within}
+use Rattle.ddf_lemmas.proofs.Lists.{first_get, get_last}
 use Rattle.ddf_bay.specs.State.{BayState}
 use Rattle.ddf_config.specs.Configuration.{Configuration}
 use Rattle.ddf_config.specs.Members.{is_current}
 use Rattle.ddf_history.specs.Groups.{groups}
 use Rattle.ddf_history.specs.Issued.{Changes, IsChain, IsSince, Past, acknowledged, issue}
-use Rattle.ddf_history.proofs.Lists.{get_kept, get_last, get_within}
-use Rattle.ddf_history.proofs.Since.{same_number, some_is}
+use Rattle.ddf_history.proofs.Since.{same_number}
 use Rattle.ddf_seats.specs.Group.{GroupValue}
 use Rattle.ddf_seats.specs.Leading.{some}
 use Rattle.ddf_recovery.specs.Recovery.{config_lost}
@@ -40,8 +41,8 @@ next_near : (config : Configuration) (changes : List Configuration) → AreNearO
     → slice_get (config ∷ changes) k ≡ Some earlier → slice_get (config ∷ changes) (suc k) ≡ Some later → later.sequence ≤ earlier.sequence + most_between earlier later
 next_near config [] near k earlier later at there = absurd cc
 next_near config (next ∷ others) near zero earlier later at there =
-    subst (λ (one : Configuration). later.sequence ≤ one.sequence + most_between one later) (some_is config earlier at)
-    (subst (λ (one : Configuration). one.sequence ≤ config.sequence + most_between config one) (some_is next later there) near.0)
+    subst (λ (one : Configuration). later.sequence ≤ one.sequence + most_between one later) (same_Some config earlier at)
+    (subst (λ (one : Configuration). one.sequence ≤ config.sequence + most_between config one) (same_Some next later there) near.0)
 next_near config (next ∷ others) near (suc k) earlier later at there = next_near next others near.1 k earlier later at there
 
 -- and itself.
@@ -53,7 +54,7 @@ two_near config changes near k m earlier later at there le most = elim (cases_lt
       next_near config changes near k earlier later at (subst (λ (n : ℕ). slice_get (config ∷ changes) n ≡ Some later) next there)
   | inr also ↦
       let same : m ≡ k = omega (arith, le, also) in
-      let equal : later.sequence ≡ earlier.sequence = ap (λ (c : Configuration). c.sequence) (some_is later earlier (sym there ∙ ap (slice_get (config ∷ changes)) same ∙ at)) in
+      let equal : later.sequence ≡ earlier.sequence = ap (λ (c : Configuration). c.sequence) (same_Some later earlier (sym there ∙ ap (slice_get (config ∷ changes)) same ∙ at)) in
       omega (arith, equal)
 ]
 
@@ -75,11 +76,11 @@ module _ (group : List ℕ) where
       let here : n + 0 ≡ n = omega arith in
       sym at ∙ subst (λ (place : ℕ). slice_get past.changes.issued place ≡ Some one) here there
   issued_from past n config at long [] (suc k) one there =
-      let within = get_within past.changes.issued (n + suc k) one there in
+      let within = slice_get_within past.changes.issued (n + suc k) one there in
       absurd (omega (arith, long, within))
   issued_from past n config at long (next ∷ others) zero one there =
       let here : n + 0 ≡ n = omega arith in
-      sym (issued_stays group (issue past next) others n config (get_kept past.changes.issued (next ∷ []) n config at))
+      sym (issued_stays group (issue past next) others n config (first_get past.changes.issued (next ∷ []) n config at))
       ∙ subst (λ (place : ℕ). slice_get (issue_all group (issue past next) others).changes.issued place ≡ Some one) here there
   issued_from past n config at long (next ∷ others) (suc k) one there =
       let last : slice_get (past.changes.issued ++ next ∷ []) (n + 1) ≡ Some next =
@@ -128,7 +129,7 @@ module _ (group : List ℕ) (past : Past (groups group)) (chain : IsChain past.c
         let also : slice_get (found.config ∷ take issued changes) other.0 ≡ Some later =
         issued_from group start number found.config first.0 first.1 (take issued changes) other.0 later
         (subst (λ (place : ℕ). slice_get (after issued).issued place ≡ Some later) other.1 there.is_there) in
-        let within = get_within (found.config ∷ take issued changes) other.0 later also in
+        let within = slice_get_within (found.config ∷ take issued changes) other.0 later also in
         let count = length-take-le issued changes few in
         let first_is = one.1 in
         let other_is = other.1 in
@@ -157,7 +158,7 @@ module _ (group : List ℕ) (past : Past (groups group)) (chain : IsChain past.c
   over_near : (now : Past (groups group)) → IsOver group past readable found changes now → AreNear group now.changes
   over_near now over i j earlier later at there le =
       let long = over_length group past readable found changes now over in
-      let within = get_within now.changes.issued j later there.is_there in
+      let within = slice_get_within now.changes.issued j later there.is_there in
       let from = at.late in
       let equal : later.sequence ≡ earlier.sequence = ap (λ (c : Configuration). c.sequence) (same_number j i later earlier there at (omega (arith, long, within, from, le))) in
       omega (arith, equal)

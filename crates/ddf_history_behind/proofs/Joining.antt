@@ -1,11 +1,11 @@
 -- A join that is written behind a recovery is near what it is issued behind.
 use Rattle.std.proofs.Common.{◌≡◌, ℕ, ◌+◌, ◌≤◌, Bool, true, false, List, [], length, ap, sym, subst, inl, inr, arith}
+use Rattle.std.proofs.lemmas.Option.{slice_get_within}
 use Rattle.ddf_bay.specs.Sectors.{IsLeft}
 use Rattle.ddf_bay.specs.State.{BayState}
 use Rattle.ddf_config.specs.Configuration.{Configuration}
 use Rattle.ddf_history.specs.Groups.{groups}
 use Rattle.ddf_history.specs.Issued.{Past, issued}
-use Rattle.ddf_history.proofs.Lists.{get_within}
 use Rattle.ddf_seats.specs.Group.{GroupValue}
 use Rattle.ddf_steps.specs.Steps.{Step}
 use Rattle.ddf_recovery.specs.Committed.{group_recovered}
@@ -57,7 +57,7 @@ module _ (group : List ℕ) {D : Type 0} (past : Past (groups group)) (state : B
 
   behind_near : AreNear group (behind_join group past join).changes
   behind_near =
-      let within = get_within past.changes.issued past.changes.acked found.config stands.at_end.is_last.since.is_there in
+      let within = slice_get_within past.changes.issued past.changes.acked found.config stands.at_end.is_last.since.is_there in
       near_acknowledged group (issued past.changes next) (length past.changes.issued) (omega (arith, within)) join_near
 
   goes_near : (now : Past (groups group)) → GoesToJoin group past join now → AreNear group now.changes

@@ -1,28 +1,24 @@
 -- A change that loses a member counts one more of those that are lost.
-use Rattle.std.proofs.Common.{◌≡◌, ℕ, ◌+◌, ◌≤◌, ◌&&◌, not, Bool, true, false, eqb, nat_eq, List, [], ◌∷◌, map, Option, Some, None, refl, ap, sym, ◌∙◌}
+use Rattle.std.proofs.Common.{◌≡◌, ℕ, ◌+◌, ◌≤◌, ◌&&◌, not, Bool, true, false, eqb, nat_eq, Option, Some, None, refl, ap, sym, ◌∙◌}
 use Rattle.std.proofs.lemmas.Bool.{and_from, and_parts, eqb-true, false_from_ne_true, false≢true, or_left, or_right}
 use Rattle.std.proofs.Math.Path.{fun_ext}
 use Rattle.std.specs.Prelude.{count_by, slice_get}
 use Rattle.std.specs.Map.{lookup}
 use Rattle.std.specs.Str.{bytes_eq}
+use Rattle.ddf_lemmas.proofs.Lists.{bytes_same}
+use Rattle.ddf_lemmas.proofs.Tests.{eqb_turned}
 use Rattle.ddf_config.specs.declared.member.Member.{Member}
 use Rattle.ddf_config.specs.Configuration.{Configuration}
-use Rattle.ddf_config.specs.Entries.{changed_entries}
 use Rattle.ddf_config.specs.Members.{is_current}
 use Rattle.ddf_plan.specs.declared.change.Change.{Change}
 use Rattle.ddf_plan.specs.Changes.{changed_at}
 use Rattle.ddf_plan.specs.Lose.{is_among}
 use Rattle.ddf_plan.specs.Members.{lost_by, member_after}
-use Rattle.ddf_view.proofs.Tests.{bytes_same}
+use Rattle.ddf_steps.proofs.MembersAfter.{changed_map}
 use Rattle.ddf_history.specs.Groups.{Disk, has_current, has_missing}
-use Rattle.ddf_history_steps.proofs.Claimed.{either_way, entry_there}
+use Rattle.ddf_history_steps.proofs.Claimed.{entry_there}
 use Rattle.ddf_history_behind.specs.Behind.{disk_in, is_lost_between}
 use Rattle.ddf_history_behind.proofs.Counts.{one_more}
-
--- Entries that a change keeps each are as it makes them.
-changed_map : (g : ℕ → Member → Member) (entries : List (ℕ × Member)) → changed_entries (λ k m. Some (g k m)) entries ≡ map (λ (entry : ℕ × Member). (entry.0, g entry.0 entry.1)) entries
-changed_map g [] = refl
-changed_map g (entry ∷ entries) = ap (λ (l : List (ℕ × Member)). (entry.0, g entry.0 entry.1) ∷ l) (changed_map g entries)
 
 -- ---- the entry of a current member
 
@@ -45,7 +41,7 @@ has_entry config reference is = go (lookup (nat_eq reference) config.members) re
     -- The entry that the look-up by its own number finds is that one.
     own : (key : ℕ) (member : Member) → key ≡ reference → lookup (nat_eq reference) config.members ≡ Some member → not member.missing ≡ true → has_current config (disk_in (key, member)) ≡ true
     own key member same found here =
-        let tests : nat_eq key ≡ (λ (other : ℕ). eqb other key) = fun_ext (λ (other : ℕ). either_way key other) in
+        let tests : nat_eq key ≡ (λ (other : ℕ). eqb other key) = fun_ext (λ (other : ℕ). eqb_turned key other) in
         let is_found : lookup (λ (other : ℕ). eqb other key) config.members ≡ Some member =
         sym (ap (λ (test : ℕ → Bool). lookup test config.members) tests) ∙ ap (λ (n : ℕ). lookup (nat_eq n) config.members) same ∙ found in
         rw is_found (and_from (bytes_eq member.guid member.guid) (not member.missing) (bytes_same member.guid) here)

@@ -1,5 +1,5 @@
 -- A copy that is read names each disk and each array once, so what any slot shows does.
-use Rattle.std.proofs.Common.{◌≡◌, ◌⊎◌, ℕ, suc, Bool, true, false, List, [], ◌∷◌, map, filter_map, nat_eq, Option, Some, None, Result, Ok, Err, if◌then◌else◌, inl, inr, refl, ap, subst}
+use Rattle.std.proofs.Common.{◌≡◌, ℕ, suc, Bool, true, false, List, [], ◌∷◌, map, nat_eq, Option, Some, None, Result, Ok, Err, if◌then◌else◌, inl, inr, refl, ap, subst}
 use Rattle.std.specs.Prelude.{IfSome, nat_lt}
 use Rattle.std.specs.List.{IsDistinct}
 use Rattle.std.specs.Str.{bytes_eq}
@@ -8,13 +8,11 @@ use Rattle.ddf_bytes.proofs.Nones.{none_first}
 use Rattle.ddf_bay.specs.State.{BayState, on_slot, size_of}
 use Rattle.ddf_header.specs.declared.reading.Header.{Header}
 use Rattle.ddf_tables.specs.declared.arrays.ArrayRow.{ArrayRow}
-use Rattle.ddf_tables.specs.declared.arrays.ArrayRow.TheVariants as array_rows
 use Rattle.ddf_tables.specs.declared.disks.DiskRow.{DiskRow}
-use Rattle.ddf_tables.specs.declared.disks.DiskRow.TheVariants as disk_rows
 use Rattle.ddf_tables.specs.declared.fault.TableFault.{TableFault}
 use Rattle.ddf_tables.specs.declared.layout.TheConstants.{ROWS_AT}
-use Rattle.ddf_tables.specs.Arrays.{HaveGuids, array_row_at, array_signature, decoded_arrays, guid_of}
-use Rattle.ddf_tables.specs.Disks.{HaveReferences, decoded_disks, disk_row_at, disk_signature, reference_of}
+use Rattle.ddf_tables.specs.Arrays.{HaveGuids, array_row_at, array_signature, decoded_arrays}
+use Rattle.ddf_tables.specs.Disks.{HaveReferences, decoded_disks, disk_row_at, disk_signature}
 use Rattle.ddf_tables.specs.Sectors.{decoded_controller, decoded_disk_data}
 use Rattle.ddf_tables.specs.Tables.{TableValue, decoded_table, rows_at, table_at, table_faults}
 use Rattle.ddf_tables.proofs.ArrayRows.{array_names}
@@ -36,8 +34,10 @@ use Rattle.ddf_copy.specs.Copies.{are_level, copy_of, newest_at, newest_in, newe
 use Rattle.ddf_copy.specs.Gate.{header_of}
 use Rattle.ddf_copy.specs.Sections.{and_then, bytes_in, copy_in, in_section, in_sector, in_slots, log_in, raw_at}
 use Rattle.ddf_copy.specs.Which.{place_of}
+use Rattle.ddf_copy.proofs.LastCopies.{ok_or}
 use Rattle.ddf_view.specs.Readable.{DoNamesDiffer}
-use Rattle.ddf_view.specs.View.{array_of, disk_of, view_of}
+use Rattle.ddf_view.specs.View.{view_of}
+use Rattle.ddf_view.proofs.Names.{guids, references}
 use Rattle.ddf_group.specs.Names.{AreNamed, IsNamed}
 use Rattle.ddf_group.specs.Shown.{shown_of}
 use Rattle.ddf_assembly.specs.Slots.{newest_from, newest_or}
@@ -69,10 +69,6 @@ HasNames copy = HaveReferences copy.disks.rows × HaveGuids copy.arrays.rows
 abbrev AreNames : Result DiskCopy CopyFault → Type 0
 AreNames (Ok copy) = HasNames copy
 AreNames (Err fault) = Unit {0}
-
-ok_or : {A : Type 0} (read : Result A CopyFault) → ((value : A) × (read ≡ Ok value)) ⊎ ((fault : CopyFault) × (read ≡ Err fault))
-ok_or (Ok value) = inl (value, refl)
-ok_or (Err fault) = inr (fault, refl)
 
 in_copy : (header : Header) (raw : Raw) → AreNames (copy_in header raw)
 unfolding copy_in
@@ -138,16 +134,6 @@ newest_named size sector anchor =
     by level (Ok primary) (Err fault) one other = one
     by level (Err fault) (Ok secondary) one other = other
     by level (Err first) (Err second) one other = tt
-
-references : (rows : List DiskRow) → filter_map reference_of rows ≡ map (λ disk. disk.reference) (filter_map disk_of rows)
-references [] = refl
-references (disk_rows.Entry entry ∷ rows) = ap (λ others. entry.reference ∷ others) (references rows)
-references (disk_rows.Unused whole ∷ rows) = references rows
-
-guids : (rows : List ArrayRow) → filter_map guid_of rows ≡ map (λ entry. entry.guid) (filter_map array_of rows)
-guids [] = refl
-guids (array_rows.Entry entry ∷ rows) = ap (λ others. entry.guid ∷ others) (guids rows)
-guids (array_rows.Unused whole ∷ rows) = guids rows
 
 view_named : (copy : DiskCopy) → HasNames copy → DoNamesDiffer (view_of copy ∷ [])
 unfolding view_of

@@ -4,6 +4,7 @@ use Rattle.std.proofs.lemmas.Bool.{cases_lt, false_from_ne_true, le-ltb, or_from
 use Rattle.std.proofs.Math.Path.{fun_ext}
 use Rattle.std.specs.Prelude.{count_by, nat_lt}
 use Rattle.std.specs.Str.{bytes_eq}
+use Rattle.ddf_lemmas.proofs.Lists.{bytes_same}
 use Rattle.ddf_bay.specs.Moments.{StopsLeave}
 use Rattle.ddf_bay.specs.Sectors.{Image, IsLeft}
 use Rattle.ddf_bay.specs.State.{BayState}
@@ -11,7 +12,7 @@ use Rattle.ddf_config.specs.declared.member.Member.{Member}
 use Rattle.ddf_config.specs.Configuration.{Configuration}
 use Rattle.ddf_copy.specs.declared.copy.DiskCopy.{DiskCopy}
 use Rattle.ddf_view.specs.View.{View, view_of}
-use Rattle.ddf_view.proofs.Tests.{bytes_same, same_bytes}
+use Rattle.ddf_view.proofs.Tests.{same_bytes}
 use Rattle.ddf_history.specs.Reading.{IsCopyOf, Scene}
 use Rattle.ddf_history.specs.Issued.{Past, IsSince, is_away}
 use Rattle.ddf_history.specs.Leaders.{seen}
@@ -32,6 +33,7 @@ use Rattle.ddf_history_steps.proofs.Acked.{ends_keeps}
 use Rattle.ddf_history_steps.proofs.Begun.{assembled_since}
 use Rattle.ddf_history_steps.proofs.Claimed.{disk_claimed, disk_member, disk_names, disk_read}
 use Rattle.ddf_history_steps.proofs.SlotsKept.{ends_slots}
+use Rattle.ddf_history_steps.proofs.RecoveringPlaces.{view_group}
 use Rattle.ddf_history_behind.specs.Behind.{AreNear, KeepsNear, NoneLags, NoneStale, disk_in, is_lost_between, most_between}
 
 -- What a copy lists as missing is what the configuration does that it shows.
@@ -40,10 +42,6 @@ same_most older config disk shows =
     let tests : is_lost_since disk ≡ is_lost_between older =
     fun_ext (λ (entry : ℕ × Member). ap (λ (b : Bool). entry.1.missing && not b) (missing_alike (view_of disk.copy) older (disk_in entry) shows)) in
     ap (λ (test : (ℕ × Member) → Bool). 1 + 2 * count_by test config.members) tests
-
-viewed_group : (copy : DiskCopy) → (view_of copy).group ≡ copy.header.guid
-unfolding view_of
-viewed_group copy = refl
 
 viewed_sequence : (copy : DiskCopy) → (view_of copy).sequence ≡ copy.header.sequence
 unfolding view_of
@@ -90,7 +88,7 @@ module _ (group : List ℕ) (past : Past (groups group)) (scene : Scene View) (k
   outside_fresh out =
       other_group noted config disk
       (λ ours.
-      let own : group ≡ (view_of disk.copy).group = sym same_group ∙ sym (same_bytes disk.copy.header.guid config.group ours) ∙ sym (viewed_group disk.copy) in
+      let own : group ≡ (view_of disk.copy).group = sym same_group ∙ sym (same_bytes disk.copy.header.guid config.group ours) ∙ sym (view_group disk.copy) in
       out.joins_later number config (view_of disk.copy) since current shown (subst (λ (name : List ℕ). bytes_eq group name ≡ true) own (bytes_same group)))
 
   lagging_none : is_away past slot ≡ false → IsLagging past.changes (past.disk slot) (scene slot) → ⊥

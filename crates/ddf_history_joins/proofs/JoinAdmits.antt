@@ -1,8 +1,9 @@
 -- A history that admits an import at its entry does so behind the recovery.
 use Rattle.std.proofs.Common.{◌≡◌, ℕ, ◌&&◌, ◌||◌, not, Bool, true, false, List, [], length, Option, Some, if◌then◌else◌, refl, ap, sym, ◌∙◌, inl, inr, ⊎_elim, subst}
-use Rattle.std.proofs.lemmas.Bool.{and_from, or_right, true≢false}
+use Rattle.std.proofs.lemmas.Bool.{and_from, or_right, true≢false, or_parts}
 use Rattle.std.proofs.Math.Path.{fun_ext}
 use Rattle.std.specs.Prelude.{slice_get}
+use Rattle.ddf_lemmas.proofs.Lists.{in_map}
 use Rattle.ddf_bay.specs.Sectors.{Image, IsLeft}
 use Rattle.ddf_bay.specs.State.{BayState}
 use Rattle.ddf_config.specs.declared.seat.Seat.{Seat}
@@ -11,7 +12,6 @@ use Rattle.ddf_plan.specs.Lose.{is_among}
 use Rattle.ddf_plan.specs.declared.change.Change.TheVariants.{Lose}
 use Rattle.ddf_update.specs.Changes.{AreChanged}
 use Rattle.ddf_view.specs.View.{View, view_of}
-use Rattle.ddf_rewrite.proofs.Lists.{map_get}
 use Rattle.ddf_history.specs.Reading.{IsCopyOf, Shown, ShowsGroup}
 use Rattle.ddf_history.specs.Groups.{Disk, disk_of, groups, has_current, has_missing}
 use Rattle.ddf_history.specs.Issued.{Past, is_away, leave_out, take_off}
@@ -34,6 +34,7 @@ use Rattle.ddf_seats.proofs.CommittedSeats.{seated_is}
 use Rattle.ddf_seats.proofs.Lists.{get_within}
 use Rattle.ddf_recovery.proofs.RecoveredGroup.{is_recovered}
 use Rattle.ddf_recovery.proofs.RecoveryWritten.{may_recover, recovery_on_seats}
+use Rattle.ddf_history.proofs.Common.{current_listed}
 use Rattle.ddf_history_steps.specs.AtEnd.{IsAtEnd}
 use Rattle.ddf_history_steps.specs.Going.{IsAdmitted, IsOver, KeepsSlots, issue_all}
 use Rattle.ddf_history_joins.specs.Joins.{AdmitsBoth, AdmitsCall, AdmitsImport, AdmitsJoin, WereBothTaken}
@@ -42,7 +43,6 @@ use Rattle.ddf_history_steps.specs.Steps.{IsRecovery, WasTaken, recovery_changes
 use Rattle.ddf_history_steps.proofs.ChangingStays.{stays_current}
 use Rattle.ddf_history_steps.proofs.Claimed as claims
 use Rattle.ddf_history_steps.proofs.CommittingScenes.{seat_shows}
-use Rattle.ddf_history_steps.proofs.CommittingStep.{current_listed}
 use Rattle.ddf_history_joins.proofs.JoinMembers.{joins_no_member}
 use Rattle.ddf_history_joins.proofs.JoinTaken.{apart_before, recovered_current, was_taken}
 use Rattle.ddf_history_joins.proofs.JoinTries.{free, members_apart}
@@ -52,10 +52,6 @@ use Rattle.ddf_history_steps.proofs.RecoveringLoss.{lose_leaves}
 use Rattle.ddf_history_steps.proofs.Slots.{not_placed, slot_is, slot_placed}
 use Rattle.ddf_history_steps.proofs.SlotsKept.{ends_slots, issued_same}
 use Rattle.ddf_history_steps.proofs.Stops.{same_scene, unwritten_else, unwritten_here}
-
-neither : (a b : Bool) → (a || b) ≡ false → (a ≡ false) × (b ≡ false)
-neither true b e = absurd (true≢false e)
-neither false b e = (refl, e)
 
 module _ (group : List ℕ) {D : Type 0} (past : Past (groups group)) (state : BayState D) (left also_left : List Bool) (named also_named : Option (List ℕ)) (native other : GroupValue)
     (timestamp : ℕ) (recovery : ReadyValue) (join : JoinValue) (taken : WereBothTaken state left also_left named also_named native other timestamp recovery join)
@@ -108,8 +104,8 @@ module _ (group : List ℕ) {D : Type 0} (past : Past (groups group)) (state : B
   still_here slot here = go (past.lost slot) refl
     where
       go : (b : Bool) → past.lost slot ≡ b → (b || past.returned slot) ≡ false
-      go true e = absurd (true≢false (sym (same_slots.still_lost slot e) ∙ (neither (now.lost slot) (now.returned slot) here).0))
-      go false e = sym (ap (λ (all : ℕ → Bool). all slot) same_slots.same_returned) ∙ (neither (now.lost slot) (now.returned slot) here).1
+      go true e = absurd (true≢false (sym (same_slots.still_lost slot e) ∙ (or_parts (now.lost slot) (now.returned slot) here).0))
+      go false e = sym (ap (λ (all : ℕ → Bool). all slot) same_slots.same_returned) ∙ (or_parts (now.lost slot) (now.returned slot) here).1
 
   -- A member of what was assembled that isn't away then is one behind the recovery.
   still_member : (slot : ℕ) → is_away now slot ≡ false → has_current native.config (past.disk slot) ≡ true → has_current (config_recovered native) (past.disk slot) ≡ true
@@ -130,7 +126,7 @@ module _ (group : List ℕ) {D : Type 0} (past : Past (groups group)) (state : B
       by : (b : Bool) → some native.absent ≡ b → has_current (if b then config_lost native else native.config) (past.disk slot) ≡ true
       by true absent = elim (which (is_read left slot)) [
         | inl read ↦ when_read read
-        | inr out ↦ absurd (true≢false (sym (left_is_lost absent slot out current) ∙ (neither (now.lost slot) (now.returned slot) here).0))
+        | inr out ↦ absurd (true≢false (sym (left_is_lost absent slot out current) ∙ (or_parts (now.lost slot) (now.returned slot) here).0))
       ]
       by false none = current
 
@@ -139,17 +135,17 @@ module _ (group : List ℕ) {D : Type 0} (past : Past (groups group)) (state : B
   native_disk : (slot : ℕ) → is_slot (slots_of native.seats) slot ≡ true → (k : ℕ) × (disk : Seated) × (slice_get (seated native) k ≡ Some disk) × (disk.seat.slot ≡ slot)
   native_disk slot here =
       let placed = slot_placed (slots_of native.seats) slot here in
-      let seat = map_get (λ (one : Seat). one.slot) native.seats placed.0 slot placed.1 in
+      let seat = in_map (λ (one : Seat). one.slot) native.seats placed.0 slot placed.1 in
       let there : slice_get (seats_in (seated native)) placed.0 ≡ Some seat.0 = ap (λ (seats : List Seat). slice_get seats placed.0) taken.assembled.are_seated ∙ seat.1 in
-      let disk = map_get (λ (one : Seated). one.seat) (seated native) placed.0 seat.0 there in
+      let disk = in_map (λ (one : Seated). one.seat) (seated native) placed.0 seat.0 there in
       (placed.0, disk.0, disk.1, ap (λ (one : Seat). one.slot) disk.2 ∙ seat.2)
 
   other_disk : (slot : ℕ) → is_slot (slots_of other.seats) slot ≡ true → (k : ℕ) × (disk : Seated) × (slice_get (seated other) k ≡ Some disk) × (disk.seat.slot ≡ slot)
   other_disk slot here =
       let placed = slot_placed (slots_of other.seats) slot here in
-      let seat = map_get (λ (one : Seat). one.slot) other.seats placed.0 slot placed.1 in
+      let seat = in_map (λ (one : Seat). one.slot) other.seats placed.0 slot placed.1 in
       let there : slice_get (seats_in (seated other)) placed.0 ≡ Some seat.0 = ap (λ (seats : List Seat). slice_get seats placed.0) taken.other_assembled.are_seated ∙ seat.1 in
-      let disk = map_get (λ (one : Seated). one.seat) (seated other) placed.0 seat.0 there in
+      let disk = in_map (λ (one : Seated). one.seat) (seated other) placed.0 seat.0 there in
       (placed.0, disk.0, disk.1, ap (λ (one : Seat). one.slot) disk.2 ∙ seat.2)
 
   -- The disk of such a slot is a member behind the recovery.
@@ -201,10 +197,10 @@ module _ (group : List ℕ) {D : Type 0} (past : Past (groups group)) (state : B
   recovered_seat slot here =
       let current = ap (has_current (group_recovered native recovery.recovery).config) (disks_same slot) ∙ ap (λ (config : Configuration). has_current config (past.disk slot)) config_is ∙ native_current slot here in
       let placed = slot_placed (slots_of (group_recovered native recovery.recovery).seats) slot (end.are_seated slot (native_here slot here) current) in
-      let seat = map_get (λ (one : Seat). one.slot) (group_recovered native recovery.recovery).seats placed.0 slot placed.1 in
+      let seat = in_map (λ (one : Seat). one.slot) (group_recovered native recovery.recovery).seats placed.0 slot placed.1 in
       let there : slice_get (seats_in (seated (group_recovered native recovery.recovery))) placed.0 ≡ Some seat.0 =
       ap (λ (seats : List Seat). slice_get seats placed.0) end.is_settled.are_seated ∙ seat.1 in
-      let disk = map_get (λ (one : Seated). one.seat) (seated (group_recovered native recovery.recovery)) placed.0 seat.0 there in
+      let disk = in_map (λ (one : Seated). one.seat) (seated (group_recovered native recovery.recovery)) placed.0 seat.0 there in
       (placed.0, disk.0, disk.1, ap (λ (one : Seat). one.slot) disk.2 ∙ seat.2)
 
   -- ---- an image behind the recovery, once the joining slots are synced

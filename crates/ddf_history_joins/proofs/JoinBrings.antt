@@ -1,12 +1,15 @@
 -- An assembled group brings along its current members, each in its seat, once those that are absent are lost.
 use Rattle.std.proofs.Common.{◌≡◌, ℕ, zero, suc, ◌+◌, ◌<◌, ◌&&◌, not, Bool, true, false, eqb, nat_eq, List, [], ◌∷◌, length, map, Option, Some, None, Ok, if◌then◌else◌, refl, ap, sym, ◌∙◌, subst, arith, zero-add}
-use Rattle.std.proofs.lemmas.Bool.{and_from, and_parts, eq-eqb, eqb-true, false≢true}
+use Rattle.std.proofs.lemmas.Bool.{and_parts, eq-eqb, eqb-true, false≢true}
 use Rattle.std.specs.Prelude.{filter, filter_map, find, option_map, slice_get}
 use Rattle.std.specs.List.{IsDistinct, cons_option, list_any}
 use Rattle.std.specs.Map.{lookup}
 use Rattle.std.specs.Option.{option_and_then, option_map_or}
-use Rattle.std.specs.Cmp.Lexicographic.{pointwise}
 use Rattle.std.specs.Str.{bytes_eq}
+use Rattle.std.proofs.lemmas.Map.Keys.{any_passes_from_place}
+use Rattle.std.proofs.lemmas.Option.{same_Some}
+use Rattle.ddf_lemmas.proofs.Lists.{filtered_passes, found_place, in_map, mapped_at}
+use Rattle.ddf_lemmas.proofs.Options.{value_there}
 use Rattle.ddf_tables.specs.declared.disks.DiskEntry.{DiskEntry}
 use Rattle.ddf_config.specs.declared.member.Member.{Member}
 use Rattle.ddf_config.specs.declared.seat.Seat.{Seat}
@@ -24,18 +27,15 @@ use Rattle.ddf_plan.specs.Changes.{changed_at}
 use Rattle.ddf_plan.specs.Lose.{is_among}
 use Rattle.ddf_view.specs.View.{View, is_missing, lists_current, view_of}
 use Rattle.ddf_view.specs.Reading.{disks_in, member_entry_in, read}
-use Rattle.ddf_view.specs.Shows.{gives_member, same_flag}
 use Rattle.ddf_view.proofs.Names.{names_differ}
-use Rattle.ddf_view.proofs.Tests.{bytes_same}
 use Rattle.ddf_group.specs.declared.shown.Shown.{Shown}
 use Rattle.ddf_group.specs.declared.shown.Shown.TheVariants as shown
 use Rattle.ddf_group.specs.Assembled.{assembled_as, config_of, has_reference, is_absent, leading_views}
 use Rattle.ddf_group.specs.Shown.{shown_of}
 use Rattle.ddf_group.specs.Slots.{claims, claims_by, leaders, leading_view, leads, none_later, numbers, reference_at, sequence_in, shows_group, slot_at, view_in}
-use Rattle.ddf_rewrite.proofs.Lists.{found_place, get_map, get_range, map_get}
+use Rattle.ddf_rewrite.proofs.Lists.{get_range}
 use Rattle.ddf_history.specs.Groups.{Disk, disk_of, has_current}
-use Rattle.ddf_history.proofs.Listed.{table_lists, value_there}
-use Rattle.ddf_history.proofs.Since.{some_is}
+use Rattle.ddf_history.proofs.Listed.{table_lists}
 use Rattle.ddf_history.proofs.Following.{changes_follow, lost_missing}
 use Rattle.ddf_history.proofs.Sound.{groups_are_sound}
 use Rattle.ddf_seats.specs.declared.seated.Seated.{Seated}
@@ -50,12 +50,12 @@ use Rattle.ddf_assembly.proofs.SettledHeld.{newest_kept}
 use Rattle.ddf_history_joins.specs.Joins.{BringsMembers}
 use Rattle.ddf_history_steps.proofs.Begun.{IsMadeOf, found_named}
 use Rattle.ddf_history_steps.proofs.ChangingStays.{stays_current}
-use Rattle.ddf_history_steps.proofs.Claimed.{absent_none, any_there, entry_there, listed_among}
-use Rattle.ddf_history_steps.proofs.CommittingStep.{current_listed}
-use Rattle.ddf_history_steps.proofs.Filtered.{any_kept, made_of, passes_kept}
+use Rattle.ddf_history_steps.proofs.Claimed.{absent_none, entry_there, listed_among}
+use Rattle.ddf_history_steps.proofs.Filtered.{any_kept, made_of}
 use Rattle.ddf_history_steps.proofs.RecoveringLoss.{lose_leaves}
 use Rattle.ddf_history_steps.proofs.Seats.{absent_are, copy_there, group_made, claims_seat, seat_claims, seat_there, seats_are, view_at}
-use Rattle.ddf_assembly.proofs.LeftBefore.{kept_at}
+use Rattle.ddf_history.proofs.Common.{current_listed}
+use Rattle.ddf_history_steps.proofs.FoundingViews.{members_given}
 
 -- ---- lists
 
@@ -80,22 +80,6 @@ first_kept {X = X} test (first ∷ xs) x found = go (first_kept test xs x) (test
     go later false is same = later same
 
 -- ---- what is read of a table
-
-same_always : (b : Bool) → same_flag b b ≡ true
-same_always true = refl
-same_always false = refl
-
--- The members that a table gives are those that it lists.
-gives_all : (views : List View) (disks : List DiskEntry) → pointwise gives_member disks (map (member_entry_in views) disks) ≡ true
-gives_all views [] = refl
-gives_all views (disk ∷ disks) =
-    let references : eqb disk.reference disk.reference ≡ true = eq-eqb disk.reference disk.reference refl in
-    let sizes : eqb disk.size disk.size ≡ true = eq-eqb disk.size disk.size refl in
-    and_from (gives_member disk (member_entry_in views disk)) (pointwise gives_member disks (map (member_entry_in views) disks))
-    (and_from (eqb disk.reference disk.reference && bytes_eq disk.guid disk.guid && eqb disk.size disk.size) (same_flag (is_missing disk) (is_missing disk))
-    (and_from (eqb disk.reference disk.reference && bytes_eq disk.guid disk.guid) (eqb disk.size disk.size)
-    (and_from (eqb disk.reference disk.reference) (bytes_eq disk.guid disk.guid) references (bytes_same disk.guid)) sizes) (same_always (is_missing disk)))
-    (gives_all views disks)
 
 -- A slot that shows a group shows a copy.
 shows_copy : (group : List ℕ) (slot : Shown) → shows_group group slot ≡ true → (view : View) × (view_in slot ≡ Some view)
@@ -187,7 +171,7 @@ module _ (newest : List (Option Newest)) (named : Option (List ℕ)) (other : Gr
         members_are ∙ ap (λ (some : List View). map (member_entry_in views) (disks_in some)) views_are.1 in
         ap (λ (members : List (ℕ × Member)). option_map_or (λ (member : Member). bytes_eq member.guid disk.guid && not member.missing) (lookup (λ reference. eqb reference disk.reference) members) false) all
         ∙ sym (table_lists disk.guid disk.reference (λ entry. not (is_missing entry)) (λ member. not member.missing) (λ entry member same. ap not same) leader.0.disks
-        (map (member_entry_in views) leader.0.disks) (gives_all views leader.0.disks) apart)
+        (map (member_entry_in views) leader.0.disks) (members_given views leader.0.disks) apart)
 
   no_view : find (leads slots group) (numbers slots) ≡ None → leading_view slots group ≡ None
   unfolding leading_view
@@ -222,7 +206,7 @@ module _ (newest : List (Option Newest)) (named : Option (List ℕ)) (other : Gr
       (sym (ap (λ (seats : List Seat). slice_get seats own.place) (seats_are newest group other made)) ∙ own.is_seat) in
       let seat = seat_there newest from.0 disk.seat from.2 in
       let slot_is : from.0 ≡ disk.seat.slot = ap (λ (one : Seat). one.slot) seat.2 in
-      let copies : seat.0 ≡ disk.copy = some_is seat.0 disk.copy (sym seat.1 ∙ ap (copy_at newest) slot_is ∙ stands) in
+      let copies : seat.0 ≡ disk.copy = same_Some seat.0 disk.copy (sym seat.1 ∙ ap (copy_at newest) slot_is ∙ stands) in
       (stands, claimed, sym (ap (λ (one : Seat). one.reference) seat.2) ∙ ap (λ (copy : DiskCopy). copy.disk_data.reference) copies)
 
   pub seat_view : (place : ℕ) (disk : Seated) → slice_get (seated other) place ≡ Some disk → view_in (slot_at slots disk.seat.slot) ≡ Some (view_of disk.copy)
@@ -250,11 +234,11 @@ module _ (newest : List (Option Newest)) (named : Option (List ℕ)) (other : Gr
       by true among =
           let number : slice_get (numbers slots) disk.seat.slot ≡ Some disk.seat.slot =
           (let there = get_range 0 (length slots) disk.seat.slot below in there.2 ∙ ap Some (there.1 ∙ zero-add disk.seat.slot)) in
-          let kept = passes_kept (claims slots group) (numbers slots) disk.seat.slot disk.seat.slot number (seat_copy place disk at).1 in
+          let kept = filtered_passes (claims slots group) (numbers slots) disk.seat.slot disk.seat.slot number (seat_copy place disk at).1 in
           let has : has_reference slots (view_of disk.copy).reference disk.seat.slot ≡ true =
           ap (λ (one : Option View). option_map_or (λ (reference : ℕ). eqb reference (view_of disk.copy).reference) (option_map (λ (view : View). view.reference) one) false)
           (seat_view place disk at) ∙ eq-eqb (view_of disk.copy).reference (view_of disk.copy).reference refl in
-          let any = any_there (has_reference slots (view_of disk.copy).reference) claimed_slots kept.0 disk.seat.slot kept.1 has in
+          let any = any_passes_from_place (has_reference slots (view_of disk.copy).reference) claimed_slots kept.0 disk.seat.slot kept.1 has in
           let here = subst (λ (all : List ℕ). is_among all (view_of disk.copy).reference ≡ true) (absent_are newest group other made) among in
           absurd (false≢true (sym (absent_none slots claimed_slots (view_of disk.copy).reference other.config.members here) ∙ any))
 
@@ -277,12 +261,12 @@ module _ (newest : List (Option Newest)) (named : Option (List ℕ)) (other : Gr
       seat_of_slot slot claimed view shows reference =
           let copy = copy_there newest slot view shows in
           let seat = claims_seat newest group other made slot copy.0 (within slots slot view shows) claimed copy.1 in
-          let named = map_get (λ (one : Seat). one.slot) other.seats seat.0 slot seat.1 in
+          let named = in_map (λ (one : Seat). one.slot) other.seats seat.0 slot seat.1 in
           let there : slice_get (seats_in (seated other)) seat.0 ≡ Some named.0 = ap (λ (seats : List Seat). slice_get seats seat.0) assembled.are_seated ∙ named.1 in
-          let own = map_get (λ (one : Seated). one.seat) (seated other) seat.0 named.0 there in
+          let own = in_map (λ (one : Seated). one.seat) (seated other) seat.0 named.0 there in
           let slot_is : own.0.seat.slot ≡ slot = ap (λ (one : Seat). one.slot) own.2 ∙ named.2 in
           let same : view_of own.0.copy ≡ view =
-          some_is (view_of own.0.copy) view (sym (seat_view seat.0 own.0 own.1) ∙ ap (λ (s : ℕ). view_in (slot_at slots s)) slot_is ∙ shows) in
+          same_Some (view_of own.0.copy) view (sym (seat_view seat.0 own.0 own.1) ∙ ap (λ (s : ℕ). view_in (slot_at slots s)) slot_is ∙ shows) in
           let is_one : disk_of view ≡ disk = one_disk (disk_of view) (claimed_current slot view claimed shows) reference in
           (seat.0, own.0, own.1, ap disk_of same ∙ is_one)
         where
@@ -308,8 +292,8 @@ module _ (newest : List (Option Newest)) (named : Option (List ℕ)) (other : Gr
       by false none =
           let here = (and_parts (bytes_eq entry.0.guid disk.guid) (not entry.0.missing) entry.2).1 in
           let passes : is_absent slots claimed_slots (at_place.1, entry.0) ≡ true = rw (here, none) refl in
-          let there = kept_at (is_absent slots claimed_slots) other.config.members at_place.0 (at_place.1, entry.0) at_place.2 passes in
-          let listed = get_map (λ (one : ℕ × Member). one.0) (filter (is_absent slots claimed_slots) other.config.members) there.0 (at_place.1, entry.0) there.1 in
+          let there = filtered_passes (is_absent slots claimed_slots) other.config.members at_place.0 (at_place.1, entry.0) at_place.2 passes in
+          let listed = mapped_at (λ (one : ℕ × Member). one.0) (filter (is_absent slots claimed_slots) other.config.members) there.0 (at_place.1, entry.0) there.1 in
           let among = listed_among (map (λ (one : ℕ × Member). one.0) (filter (is_absent slots claimed_slots) other.config.members)) there.0 at_place.1 listed in
           let absent : is_among other.absent disk.reference ≡ true =
           subst (λ (reference : ℕ). is_among other.absent reference ≡ true) key_is

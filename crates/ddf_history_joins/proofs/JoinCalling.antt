@@ -1,5 +1,6 @@
 -- A call that recovers a group and writes a join keeps each history that admits it, at every moment since its entry and at its end.
-use Rattle.std.proofs.Common.{◌≡◌, ◌⊎◌, ℕ, zero, suc, ◌+◌, ◌≤◌, Bool, true, false, List, [], ◌∷◌, ◌++◌, length, take, Option, inl, inr, refl, ap, sym, ◌∙◌, subst, arith, length-append}
+use Rattle.std.proofs.Common.{◌≡◌, ◌⊎◌, ℕ, ◌+◌, ◌≤◌, Bool, true, false, List, [], ◌∷◌, ◌++◌, length, Option, inl, inr, refl, ap, sym, ◌∙◌, subst, arith, length-append}
+use Rattle.std.proofs.lemmas.List.{take-append-le}
 use Rattle.ddf_bay.specs.Moments.{StopsLeave}
 use Rattle.ddf_bay.specs.Sectors.{Image, IsLeft}
 use Rattle.ddf_bay.specs.State.{BayState}
@@ -29,12 +30,6 @@ use Rattle.ddf_history_joins.proofs.JoinKeeps.{import_keeps}
 use Rattle.ddf_history_joins.proofs.JoinTaken.{are_apart, same_newest, stands_to_join, was_taken}
 use Rattle.ddf_history_steps.proofs.RecoveringKeeps.{group_held, recovery_further, recovery_keeps, recovery_stands}
 
--- The first items of a list are the first with others behind it.
-take_first : {X : Type 0} (n : ℕ) (xs ys : List X) → n ≤ length xs → take n (xs ++ ys) ≡ take n xs
-take_first zero xs ys few = refl
-take_first (suc n) [] ys few = absurd (omega (arith, few))
-take_first {X = X} (suc n) (x ∷ xs) ys few = ap (λ (rest : List X). x ∷ rest) (take_first n xs ys (omega (arith, few)))
-
 module _ (group : List ℕ) (past : Past (groups group)) (readable : ℕ → Bool) (found : GroupValue) (changes later : List Configuration) where
   -- A call that came so far with its changes did with others behind them.
   pub more_goes : (now : Past (groups group)) → Goes group past readable found changes now → Goes group past readable found (changes ++ later) now
@@ -52,7 +47,7 @@ module _ (group : List ℕ) (past : Past (groups group)) (readable : ℕ → Boo
         most = is.most;
         in_turn = is.in_turn;
         is_now = is.is_now
-            ∙ ap (λ (some : List Configuration). acknowledge (issue_all group (begun group past readable found is.number) some) is.acked) (sym (take_first is.issued changes later is.few));
+            ∙ ap (λ (some : List Configuration). acknowledge (issue_all group (begun group past readable found is.number) some) is.acked) (sym (take-append-le is.issued changes later is.few));
       })
 
 module _ (group : List ℕ) {D : Type 0} (past : Past (groups group)) (state : BayState D) (left also_left : List Bool) (named also_named : Option (List ℕ)) (native other : GroupValue)

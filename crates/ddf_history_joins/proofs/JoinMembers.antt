@@ -6,6 +6,10 @@ use Rattle.std.specs.Prelude.{find, is_some, option_map, slice_get}
 use Rattle.std.specs.Map.{lookup}
 use Rattle.std.specs.Option.{option_map_or, option_or}
 use Rattle.std.specs.Str.{bytes_eq}
+use Rattle.std.proofs.lemmas.Option.{same_Some}
+use Rattle.ddf_lemmas.proofs.Lists.{none_found}
+use Rattle.ddf_lemmas.proofs.Options.{value_there}
+use Rattle.ddf_lemmas.proofs.Tests.{eqb_turned}
 use Rattle.ddf_config.specs.declared.member.Member.{Member}
 use Rattle.ddf_config.specs.declared.refusal.Refusal.TheVariants.{Clash, NameTaken}
 use Rattle.ddf_config.specs.Configuration.{Configuration}
@@ -16,10 +20,8 @@ use Rattle.ddf_import.specs.Clash.{array_clash, bound_in, disk_clash, has_guid, 
 use Rattle.ddf_import.specs.Joined.{kept_members, stays}
 use Rattle.ddf_plan.specs.Spare.{holds_extent}
 use Rattle.ddf_history.specs.Groups.{Disk, has_current, is_member}
-use Rattle.ddf_history.proofs.Listed.{value_there}
-use Rattle.ddf_history.proofs.Since.{some_is}
 use Rattle.ddf_joining.specs.Joining.{config_joined}
-use Rattle.ddf_history_steps.proofs.Claimed.{either_way, entry_there}
+use Rattle.ddf_history_steps.proofs.Claimed.{entry_there}
 
 -- ---- look-ups
 
@@ -27,7 +29,7 @@ use Rattle.ddf_history_steps.proofs.Claimed.{either_way, entry_there}
 abbrev pub of_disk : Disk → ℕ → Bool
 of_disk disk reference = eqb reference disk.reference
 
-lookup_both : (test : ℕ → Bool) (xs ys : List (ℕ × Member)) → lookup test (xs ++ ys) ≡ option_or (lookup test xs) (lookup test ys)
+pub lookup_both : (test : ℕ → Bool) (xs ys : List (ℕ × Member)) → lookup test (xs ++ ys) ≡ option_or (lookup test xs) (lookup test ys)
 lookup_both test [] ys = refl
 lookup_both test (entry ∷ xs) ys = by (test entry.0) (lookup_both test xs ys)
   where
@@ -99,23 +101,12 @@ module _ (keeps : ℕ → Member → Bool) where
           → (k : Bool) → keeps entry.0 entry.1 ≡ k → lookup test (kept (entry ∷ entries)) ≡ Some member
           → (place key : ℕ) × (slice_get (entry ∷ entries) place ≡ Some (key, member)) × (test key ≡ true)
       go later true is true stay at =
-          let own : entry.1 ≡ member = some_is entry.1 member (rw (stay, is) at at) in
+          let own : entry.1 ≡ member = same_Some entry.1 member (rw (stay, is) at at) in
           (0, entry.0, ap (λ (m : Member). Some (entry.0, m)) own, is)
       go later b is false stay at = rest (later (rw stay at at))
       go later false is true stay at = rest (later (rw (stay, is) at at))
 
 -- ---- a join
-
--- Where none is found none of them passes.
-none_found : {X : Type 0} (test : X → Bool) (xs : List X) → find test xs ≡ None → (place : ℕ) (x : X) → slice_get xs place ≡ Some x → test x ≡ false
-none_found test [] none place x at = absurd cc
-none_found {X = X} test (first ∷ xs) none place x at = go (none_found test xs) (test first) refl none place at
-  where
-    go : (find test xs ≡ None → (k : ℕ) (y : X) → slice_get xs k ≡ Some y → test y ≡ false) → (b : Bool) → test first ≡ b → (if b then Some first else find test xs) ≡ None
-        → (k : ℕ) → slice_get (first ∷ xs) k ≡ Some x → test x ≡ false
-    go later true is none k here = absurd cc
-    go later false is none zero here = let same : first ≡ x = cc in ap test (sym same) ∙ is
-    go later false is none (suc k) here = later none k x here
 
 no_first : (found : Option (ℕ × Member)) → option_map (λ (entry : ℕ × Member). Clash entry.1.guid) found ≡ None → found ≡ None
 no_first None is = refl
@@ -162,7 +153,7 @@ module _ (config joining : Configuration) (free : join_cause config joining ≡ 
       let there = value_there (is_here disk) (lookup (of_disk disk) joining.members) now in
       let from = entry_there (of_disk disk) joining.members there.0 there.1 in
       let key : from.1 ≡ disk.reference = eqb-true from.1 disk.reference from.3 in
-      ap (λ (test : ℕ → Bool). lookup test config.members) (sym (fun_ext (λ (reference : ℕ). either_way disk.reference reference)))
+      ap (λ (test : ℕ → Bool). lookup test config.members) (sym (fun_ext (λ (reference : ℕ). eqb_turned disk.reference reference)))
       ∙ subst (λ (n : ℕ). lookup (nat_eq n) config.members ≡ None) key (no_entry from.0 from.1 there.0 from.2)
 
   -- It is a current member then,

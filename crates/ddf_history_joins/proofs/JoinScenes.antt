@@ -6,6 +6,7 @@ use Rattle.std.specs.Prelude.{find, slice_get}
 use Rattle.std.specs.List.{AllByRecursion}
 use Rattle.std.specs.Option.{option_map_or}
 use Rattle.std.specs.Str.{bytes_eq}
+use Rattle.ddf_lemmas.proofs.Lists.{all_from, bytes_same, in_map}
 use Rattle.ddf_bay.specs.Sectors.{Image, IsLeft}
 use Rattle.ddf_bay.specs.State.{BayState, size_of}
 use Rattle.ddf_config.specs.Configuration.{Configuration}
@@ -16,10 +17,10 @@ use Rattle.ddf_copy.specs.Copies.{newest_at, newest_under, standing_copy}
 use Rattle.ddf_tables.specs.declared.disks.DiskEntry.{DiskEntry}
 use Rattle.ddf_view.specs.View.{View, find_disk, is_missing, lists_current, lists_missing, view_of}
 use Rattle.ddf_view.proofs.Names.{names_differ}
-use Rattle.ddf_view.proofs.Tests.{bytes_same, same_bytes}
+use Rattle.ddf_view.proofs.Tests.{same_bytes}
 use Rattle.ddf_group.specs.Shown.{shown_of}
 use Rattle.ddf_rewrite.specs.Before.{Before}
-use Rattle.ddf_rewrite.proofs.Lists.{all_at, all_by_get, map_get}
+use Rattle.ddf_rewrite.proofs.Lists.{all_at}
 use Rattle.ddf_history.specs.Reading.{IsCopyOf, Scene, Shown, ShowsGroup}
 use Rattle.ddf_history.specs.Reading.Shown.{One}
 use Rattle.ddf_history.specs.Groups.{Disk, Shows, disk_of, groups, has_current}
@@ -43,13 +44,13 @@ use Rattle.ddf_joining.proofs.BothSides.{have_both}
 use Rattle.ddf_history_steps.specs.Kept.{is_slot}
 use Rattle.ddf_history_steps.proofs.CommittingScenes.{seat_shows}
 use Rattle.ddf_history_steps.proofs.CommittingSeats.{copy_in}
-use Rattle.ddf_history_steps.proofs.CommittingStep.{slots_seated}
 use Rattle.ddf_history_joins.proofs.JoinMembers.{joins_no_member}
 use Rattle.ddf_history_joins.proofs.JoinSeats.{CanJoin, by_disk, copy_is, either_one, is_member, joining_slot, joining_written, native_written, slot_sure, stands_in, stays_current, written}
 use Rattle.ddf_history_steps.proofs.RecoveringPlaces.{view_group}
 use Rattle.ddf_history_steps.proofs.ShownCopies.{shows_newest, told}
 use Rattle.ddf_history_steps.proofs.Slots.{slot_placed}
 use Rattle.ddf_history_steps.proofs.Stops.{same_scene, scene_at}
+use Rattle.ddf_history_steps.proofs.RecoveringLossEnd.{slots_same}
 
 -- ---- newest copies
 
@@ -143,7 +144,7 @@ module _ (group : List ℕ) {D : Type 0} (past : Past (groups group)) (state : B
       × ((view : View) → IsCopyOf (scene_of state.sizes state.held disk.seat.slot) view → view.group ≡ disk.copy.header.guid)
 
   are_shown : AllByRecursion IsShownAs both
-  are_shown = all_by_get IsShownAs both (λ place disk at. (disk_shown place disk at, disk_group place disk at))
+  are_shown = all_from IsShownAs both (λ place disk at. (disk_shown place disk at, disk_group place disk at))
 
   pub joining_shown : (k : ℕ) (disk : Seated) → slice_get (seated other) k ≡ Some disk
       → IsCopyOf (scene_of state.sizes state.held disk.seat.slot) (view_of disk.copy)
@@ -192,8 +193,8 @@ module _ (group : List ℕ) {D : Type 0} (past : Past (groups group)) (state : B
         → (k : ℕ) × (disk : Seated) × (slice_get (seated found) k ≡ Some disk) × (disk.seat.slot ≡ slot)
     native_disk slot here now =
         let seat = slot_placed (slots_of found.seats) slot (can.at_end.are_seated slot here now) in
-        let same : slots_of found.seats ≡ slots_in (seated found) = sym (ap slots_of can.at_end.is_settled.are_seated) ∙ slots_seated (seated found) in
-        let own = map_get (λ (disk : Seated). disk.seat.slot) (seated found) seat.0 slot (sym (ap (λ (all : List ℕ). slice_get all seat.0) same) ∙ seat.1) in
+        let same : slots_of found.seats ≡ slots_in (seated found) = sym (ap slots_of can.at_end.is_settled.are_seated) ∙ slots_same (seated found) in
+        let own = in_map (λ (disk : Seated). disk.seat.slot) (seated found) seat.0 slot (sym (ap (λ (all : List ℕ). slice_get all seat.0) same) ∙ seat.1) in
         (seat.0, own.0, own.1, own.2)
 
     -- So none lags: each seat's copy is of the configuration's sequence.

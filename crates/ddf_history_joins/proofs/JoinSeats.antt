@@ -3,6 +3,7 @@ use Rattle.std.proofs.Common.{◌≡◌, ◌⊎◌, ℕ, true, List, Option, Som
 use Rattle.std.specs.Prelude.{slice_get}
 use Rattle.std.specs.List.{AllByRecursion}
 use Rattle.std.specs.Option.{option_and_then}
+use Rattle.ddf_lemmas.proofs.Lists.{all_from, in_map, mapped_at}
 use Rattle.ddf_bay.specs.Moments.{IsSettled}
 use Rattle.ddf_bay.specs.Sectors.{Image, IsLeft}
 use Rattle.ddf_bay.specs.State.{BayState}
@@ -19,7 +20,7 @@ use Rattle.ddf_view.specs.View.{view_of}
 use Rattle.ddf_rewrite.specs.Before.{Before}
 use Rattle.ddf_rewrite.specs.Changing.{CanChange}
 use Rattle.ddf_rewrite.specs.Copies.{changed_copy}
-use Rattle.ddf_rewrite.proofs.Lists.{all_at, all_by_get, get_map, map_get}
+use Rattle.ddf_rewrite.proofs.Lists.{all_at}
 use Rattle.ddf_history.specs.Groups.{Disk, disk_of, groups, has_current}
 use Rattle.ddf_history.specs.Issued.{Past}
 use Rattle.ddf_history.specs.Scenes.{scene_of}
@@ -35,13 +36,14 @@ use Rattle.ddf_joining.proofs.BothSides.{both_have, have_both}
 use Rattle.ddf_seats.proofs.CommittedSeats.{seated_is}
 use Rattle.ddf_seats.proofs.Lists.{get_within}
 use Rattle.ddf_steps.proofs.Ordered.{order_at, order_from}
+use Rattle.ddf_history.proofs.Common.{current_listed}
 use Rattle.ddf_history_steps.specs.AtEnd.{IsAtEnd, IsMember}
 use Rattle.ddf_history_joins.specs.Joins.{AdmitsJoin, BringsMembers}
 use Rattle.ddf_history_steps.specs.Kept.{is_slot}
 use Rattle.ddf_history_steps.proofs.CommittingSeats.{IsWritten, copy_found, copy_in, renewed, stays_written}
-use Rattle.ddf_history_steps.proofs.CommittingStep.{current_listed, slots_seated}
 use Rattle.ddf_history_joins.proofs.JoinMembers.{joins_current, keeps_current, of_either}
 use Rattle.ddf_history_steps.proofs.Slots.{slot_is, slot_placed}
+use Rattle.ddf_history_steps.proofs.RecoveringLossEnd.{slots_same}
 
 -- A join that may be written to the disks of a group that stands at the end of a history, and of another group.
 pub record CanJoin (group : List ℕ) {D : Type 0} (past : Past (groups group)) (state : BayState D) (found other : GroupValue) (timestamp : ℕ) (leaders : Before) (join : JoinValue) : Type 0 where
@@ -62,9 +64,9 @@ pub record CanJoin (group : List ℕ) {D : Type 0} (past : Past (groups group)) 
 ordered_slot : (disks : List Seated) (slot : ℕ) → is_slot (slots_in disks) slot ≡ true → is_slot (slots_in (in_order disks)) slot ≡ true
 ordered_slot disks slot here =
     let place = slot_placed (slots_in disks) slot here in
-    let disk = map_get (λ (one : Seated). one.seat.slot) disks place.0 slot place.1 in
+    let disk = in_map (λ (one : Seated). one.seat.slot) disks place.0 slot place.1 in
     let there = order_at disks place.0 disk.0 disk.1 in
-    slot_is (slots_in (in_order disks)) there.0 slot (get_map (λ (one : Seated). one.seat.slot) (in_order disks) there.0 disk.0 there.1 ∙ ap Some disk.2)
+    slot_is (slots_in (in_order disks)) there.0 slot (mapped_at (λ (one : Seated). one.seat.slot) (in_order disks) there.0 disk.0 there.1 ∙ ap Some disk.2)
 
 module _ (group : List ℕ) {D : Type 0} (past : Past (groups group)) (state : BayState D) (found other : GroupValue) (timestamp : ℕ) (leaders : Before) (join : JoinValue)
     (can : CanJoin group past state found other timestamp leaders join) where
@@ -106,10 +108,10 @@ module _ (group : List ℕ) {D : Type 0} (past : Past (groups group)) (state : B
   are_members : AllByRecursion (IsMember next) both
   are_members =
       both_have (IsMember next) (seated found) (seated other)
-      (all_by_get (IsMember next) (seated found) (λ k disk at.
+      (all_from (IsMember next) (seated found) (λ k disk at.
       let is = can.at_end.are_members k disk at in
       record { same_reference = is.same_reference; is_current = stays_current (disk_of (view_of disk.copy)) is.is_current }))
-      (all_by_get (IsMember next) (seated other) (λ k disk at.
+      (all_from (IsMember next) (seated other) (λ k disk at.
       let is = can.brings.are_members k disk at in
       record { same_reference = is.same_reference; is_current = joins_too (disk_of (view_of disk.copy)) is.is_current }))
 
@@ -127,7 +129,7 @@ module _ (group : List ℕ) {D : Type 0} (past : Past (groups group)) (state : B
   -- A disk stands at each place that is written.
   pub written_place : (place slot : ℕ) → slice_get (join_slots join) place ≡ Some slot
       → (made : Seated) × (slice_get (join_written join) place ≡ Some made) × (made.seat.slot ≡ slot)
-  written_place place slot at = map_get (λ (disk : Seated). disk.seat.slot) (join_written join) place slot at
+  written_place place slot at = in_map (λ (disk : Seated). disk.seat.slot) (join_written join) place slot at
 
   -- It is one of both, with its new copy.
   pub made_is : (place : ℕ) (made : Seated) → slice_get (join_written join) place ≡ Some made
@@ -144,7 +146,7 @@ module _ (group : List ℕ) {D : Type 0} (past : Past (groups group)) (state : B
 
   -- The slot of each of both is written.
   all_written : AllByRecursion (λ disk. is_slot (join_slots join) disk.seat.slot ≡ true) both
-  all_written = all_by_get (λ (disk : Seated). is_slot (join_slots join) disk.seat.slot ≡ true) both (λ place disk at.
+  all_written = all_from (λ (disk : Seated). is_slot (join_slots join) disk.seat.slot ≡ true) both (λ place disk at.
       ap (λ (all : List Seated). is_slot (slots_in all) disk.seat.slot) disks_are
       ∙ ordered_slot new_disks disk.seat.slot (stays_written both leaders next timestamp place disk at (stays place disk at)))
 
@@ -163,7 +165,7 @@ module _ (group : List ℕ) {D : Type 0} (past : Past (groups group)) (state : B
   joining_slot k disk at =
       let own = seated_is other k disk at in
       let there = ap (λ (seats : List Seat). slice_get seats own.place) can.is_join.joining ∙ own.is_seat in
-      slot_is (slots_of join.joining) own.place disk.seat.slot (get_map (λ (seat : Seat). seat.slot) join.joining own.place disk.seat there)
+      slot_is (slots_of join.joining) own.place disk.seat.slot (mapped_at (λ (seat : Seat). seat.slot) join.joining own.place disk.seat there)
 
   -- ---- copies
 
@@ -174,8 +176,8 @@ module _ (group : List ℕ) {D : Type 0} (past : Past (groups group)) (state : B
   stand : AllByRecursion StandsIn both
   stand =
       both_have StandsIn (seated found) (seated other)
-      (all_by_get StandsIn (seated found) (λ k disk at. let own = seated_is found k disk at in (own.found, own.is_found, own.stands)))
-      (all_by_get StandsIn (seated other) (λ k disk at.
+      (all_from StandsIn (seated found) (λ k disk at. let own = seated_is found k disk at in (own.found, own.is_found, own.stands)))
+      (all_from StandsIn (seated other) (λ k disk at.
       let own = seated_is other k disk at in
       let same = all_at (λ (one : Seated). slice_get found.newest one.seat.slot ≡ slice_get other.newest one.seat.slot) (seated other) k disk can.is_join.same_newest at in
       (own.found, same ∙ own.is_found, own.stands)))
@@ -210,10 +212,10 @@ module _ (group : List ℕ) {D : Type 0} (past : Past (groups group)) (state : B
   are_sure : AllByRecursion IsSure both
   are_sure =
       both_have IsSure (seated found) (seated other)
-      (all_by_get IsSure (seated found) (λ k disk at l bytes left.
+      (all_from IsSure (seated found) (λ k disk at l bytes left.
       let own = seated_is found k disk at in
       can.at_end.holds.are_settled own.place disk.seat (get_within found.seats disk.seat own.place own.is_seat) own.is_seat l bytes left.0))
-      (all_by_get IsSure (seated other) (λ k disk at l bytes left.
+      (all_from IsSure (seated other) (λ k disk at l bytes left.
       let place = slot_placed (slots_of join.joining) disk.seat.slot (joining_slot k disk at) in
       left.1 place.0 place.1))
 
@@ -226,7 +228,7 @@ module _ (group : List ℕ) {D : Type 0} (past : Past (groups group)) (state : B
   pub joining_written_slot : (slot : ℕ) → is_slot (slots_of join.joining) slot ≡ true → is_slot (join_slots join) slot ≡ true
   joining_written_slot slot here =
       let same : slots_of join.joining ≡ slots_in (seated other) =
-      ap slots_of can.is_join.joining ∙ sym (ap slots_of can.is_join.other_assembled.are_seated) ∙ slots_seated (seated other) in
+      ap slots_of can.is_join.joining ∙ sym (ap slots_of can.is_join.other_assembled.are_seated) ∙ slots_same (seated other) in
       let place = slot_placed (slots_of join.joining) slot here in
-      let own = map_get (λ (disk : Seated). disk.seat.slot) (seated other) place.0 slot (sym (ap (λ (all : List ℕ). slice_get all place.0) same) ∙ place.1) in
+      let own = in_map (λ (disk : Seated). disk.seat.slot) (seated other) place.0 slot (sym (ap (λ (all : List ℕ). slice_get all place.0) same) ∙ place.1) in
       subst (λ (s : ℕ). is_slot (join_slots join) s ≡ true) own.2 (joining_written place.0 own.0 own.1)

@@ -2,6 +2,7 @@
 use Rattle.std.proofs.Common.{◌≡◌, ◌⊎◌, ℕ, ◌<◌, Bool, true, false, List, length, map, Some, if◌then◌else◌, refl, ap, sym, ◌∙◌, inl, inr, ⊎_elim, subst}
 use Rattle.std.specs.Prelude.{slice_get}
 use Rattle.std.specs.Str.{bytes_eq}
+use Rattle.ddf_lemmas.proofs.Lists.{in_map}
 use Rattle.ddf_bay.specs.Sectors.{Image, IsLeft}
 use Rattle.ddf_bay.specs.State.{BayState}
 use Rattle.ddf_config.specs.Configuration.{Configuration}
@@ -16,7 +17,6 @@ use Rattle.ddf_rewrite.specs.Before.{Before}
 use Rattle.ddf_rewrite.specs.Changing.{CanChange}
 use Rattle.ddf_rewrite.specs.Copies.{changed_copy}
 use Rattle.ddf_rewrite.proofs.Agreeing.{copies_agree}
-use Rattle.ddf_rewrite.proofs.Lists.{get_map, map_get}
 use Rattle.ddf_history.specs.Reading.{IsCopyOf, Scene, Shown}
 use Rattle.ddf_history.specs.Reading.Shown.{One}
 use Rattle.ddf_history.specs.Groups.{Disk, Shows, disk_of, groups, has_current}
@@ -34,39 +34,32 @@ use Rattle.ddf_joining.specs.Importing.{MayJoinDisks, group_joined, join_slots, 
 use Rattle.ddf_joining.specs.Joining.{both_disks}
 use Rattle.ddf_joining.specs.JoinValue.{JoinValue}
 use Rattle.ddf_assembly.specs.Reading.{HaveAnchors}
-use Rattle.ddf_seats.specs.Seated.{seated, slots_in, is_adopted, levelled}
-use Rattle.ddf_steps.specs.Steps.{Step, disks_after, in_order, rewritten}
+use Rattle.ddf_seats.specs.Seated.{seated, is_adopted, levelled}
+use Rattle.ddf_steps.specs.Steps.{Step, disks_after, rewritten}
 use Rattle.ddf_seats.specs.Changing.{SlotsRise}
 use Rattle.ddf_joining.proofs.BothOrder.{both_rise}
 use Rattle.ddf_steps.proofs.CommittedLevels.{seated_after}
 use Rattle.ddf_seats.proofs.Lists.{get_within}
 use Rattle.ddf_joining.proofs.JoinWritten.{join_lies, joined_anchored, joined_holds, joined_settled, may_join as may_join_disks}
 use Rattle.ddf_recovery.proofs.LeftStep.{same_view}
-use Rattle.ddf_steps.proofs.Ordered.{adopted_last, order_from}
+use Rattle.ddf_steps.proofs.Ordered.{adopted_last}
+use Rattle.ddf_history.proofs.AnsweredTurned.{bytes_turned}
 use Rattle.ddf_history_steps.specs.AtEnd.{IsAtEnd, IsMember}
 use Rattle.ddf_history_joins.specs.Joins.{IsTakenOver, behind_join, with_join}
 use Rattle.ddf_history_steps.specs.Kept.{is_slot, unwritten}
 use Rattle.ddf_history_steps.proofs.ChangingCopies.{changed_views}
 use Rattle.ddf_history_steps.proofs.CommittingScenes.{all_say, changed_written, written_shows}
 use Rattle.ddf_history_steps.proofs.CommittingSeats.{IsRenewed, IsWritten, copy_in, renewed}
-use Rattle.ddf_history_steps.proofs.CommittingStep.{slots_seated}
 use Rattle.ddf_history_joins.proofs.JoinScenes.{may_join, member_written, old_names, slot_shown, sure_kept}
 use Rattle.ddf_history_joins.proofs.JoinSeats.{CanJoin, by_disk, disks_are, is_member, made_is, old_is, stands_in, written_place}
-use Rattle.ddf_history_steps.proofs.RecoveringPlaces.{bytes_turned, view_group}
+use Rattle.ddf_history_steps.proofs.RecoveringPlaces.{view_group}
 use Rattle.ddf_history_steps.proofs.Slots.{slot_is, slot_placed}
 use Rattle.ddf_history_steps.proofs.Stops.{AreInTurn, changed_left, same_scene, stop_in_turn, stop_writes, unwritten_here, unwritten_left}
 use Rattle.ddf_history_steps.proofs.StepMembers.{levelled_member, rewritten_names}
 use Rattle.ddf_history_steps.proofs.TheoryChange.{AreNew}
 use Rattle.ddf_history_joins.proofs.TheoryJoin.{join_acknowledged, join_issued, join_kept}
 use Rattle.ddf_history_steps.proofs.TheoryLast.{last_acknowledged, last_next}
-
--- A slot of disks in order is one of theirs.
-unordered_slot : (disks : List Seated) (slot : ℕ) → is_slot (slots_in (in_order disks)) slot ≡ true → is_slot (slots_in disks) slot ≡ true
-unordered_slot disks slot here =
-    let place = slot_placed (slots_in (in_order disks)) slot here in
-    let disk = map_get (λ (one : Seated). one.seat.slot) (in_order disks) place.0 slot place.1 in
-    let there = order_from disks place.0 disk.0 disk.1 in
-    slot_is (slots_in disks) there.0 slot (get_map (λ (one : Seated). one.seat.slot) disks there.0 disk.0 there.1 ∙ ap Some disk.2)
+use Rattle.ddf_history_steps.proofs.RecoveringLossEnd.{ordered_slot, slots_same}
 
 module _ (group : List ℕ) {D : Type 0} (past : Past (groups group)) (state : BayState D) (found other : GroupValue) (timestamp : ℕ) (leaders : Before) (join : JoinValue)
     (can : CanJoin group past state found other timestamp leaders join) where
@@ -294,7 +287,7 @@ module _ (group : List ℕ) {D : Type 0} (past : Past (groups group)) (state : B
     -- Each is a current member.
     members : (place : ℕ) (disk : Seated) → slice_get (seated (group_joined found join)) place ≡ Some disk → IsMember next disk
     members place disk at =
-        let made = map_get levelled join.one.step.disks place disk (sym (ap (λ (all : List Seated). slice_get all place) joined_disks) ∙ at) in
+        let made = in_map levelled join.one.step.disks place disk (sym (ap (λ (all : List Seated). slice_get all place) joined_disks) ∙ at) in
         let from = step_from place made.0 made.1 in
         let is = is_member group past state found other timestamp leaders join can from.place from.disk from.at in
         let names = rewritten_names leaders next timestamp from.disk in
@@ -314,8 +307,8 @@ module _ (group : List ℕ) {D : Type 0} (past : Past (groups group)) (state : B
       same_slots = can.at_end.same_slots ∙ ap length (sym same_sizes);
       same_group = same_group;
       are_seated = λ slot here current.
-          ap (λ (all : List ℕ). is_slot all slot) (slots_seated join.one.step.disks)
-          ∙ unordered_slot join.one.step.disks slot
+          ap (λ (all : List ℕ). is_slot all slot) (slots_same join.one.step.disks)
+          ∙ ordered_slot join.one.step.disks slot
           (member_written group past state found other timestamp leaders join can state.held settled_held slot here current);
       are_members = members;
       says_one = all_say sure now slots may.seat (join_updates join) lies.are_slots lies.counted same_sizes changed now.held left new news can.at_end.says_one;

@@ -1,7 +1,10 @@
 -- What two assemblies of one bay found, and what was readied of both, stands ready once the first group is recovered.
-use Rattle.std.proofs.Common.{◌≡◌, ◌≢◌, ℕ, Bool, true, false, not, List, [], map, Option, Some, None, Result, Ok, if◌then◌else◌, refl, ap, sym, ◌∙◌, subst}
+use Rattle.std.proofs.Common.{◌≡◌, ◌≢◌, ℕ, Bool, true, false, not, List, [], map, Option, Some, None, if◌then◌else◌, refl, ap, sym, ◌∙◌, subst}
 use Rattle.std.specs.Prelude.{slice_get}
 use Rattle.std.specs.List.{AllByRecursion}
+use Rattle.std.proofs.lemmas.Option.{same_Some}
+use Rattle.ddf_lemmas.proofs.Lists.{all_from, in_map}
+use Rattle.ddf_lemmas.proofs.Options.{same_ok}
 use Rattle.ddf_bay.specs.Sectors.{IsLeft}
 use Rattle.ddf_bay.specs.State.{BayState, size_of}
 use Rattle.ddf_header.specs.declared.reading.Header.{Header}
@@ -13,11 +16,10 @@ use Rattle.ddf_config.specs.Configuration.{Configuration}
 use Rattle.ddf_plan.specs.Lose.{is_among}
 use Rattle.ddf_plan.specs.declared.change.Change.TheVariants.{Lose}
 use Rattle.ddf_view.specs.View.{view_of}
-use Rattle.ddf_rewrite.proofs.Lists.{all_at, all_by_get, map_get}
+use Rattle.ddf_rewrite.proofs.Lists.{all_at}
 use Rattle.ddf_history.specs.Groups.{Disk, disk_of, groups, has_current}
 use Rattle.ddf_history.specs.Issued.{Past}
 use Rattle.ddf_history.specs.Scenes.{scene_of}
-use Rattle.ddf_history.proofs.Since.{some_is}
 use Rattle.ddf_seats.specs.declared.seated.Seated.{Seated}
 use Rattle.ddf_steps.specs.Committed.{IsRewritten, slots_of, synced}
 use Rattle.ddf_recovery.specs.Committed.{WasReadied, group_recovered}
@@ -40,20 +42,17 @@ use Rattle.ddf_joining.proofs.JoinReadied.{was}
 use Rattle.ddf_assembly.proofs.LeftOut.{kept_there}
 use Rattle.ddf_recovery.proofs.RecoveredGroup.{rewriting}
 use Rattle.ddf_assembly.proofs.SettledHeld.{newest_kept}
+use Rattle.ddf_history.proofs.Common.{current_listed}
 use Rattle.ddf_history_steps.specs.AtEnd.{IsAtEnd}
 use Rattle.ddf_history_joins.specs.Joins.{AdmitsImport, AdmitsJoin, BringsMembers, StandsToJoin, WereBothTaken}
 use Rattle.ddf_history_steps.specs.Steps.{WasTaken}
 use Rattle.ddf_history_steps.proofs.ChangingStays.{stays_current}
 use Rattle.ddf_history_steps.proofs.CommittingSeats.{renewed}
-use Rattle.ddf_history_steps.proofs.CommittingStep.{current_listed}
 use Rattle.ddf_history_joins.proofs.JoinBrings.{brings, claimed_current, seat_copy, seat_not_absent, seat_view}
 use Rattle.ddf_history_joins.proofs.JoinMembers.{joins_no_member}
 use Rattle.ddf_history_joins.proofs.JoinTries.{free, joining_is, members_apart, step_is}
 use Rattle.ddf_history_steps.proofs.RecoveringKeeps.{group_held}
 use Rattle.ddf_history_steps.proofs.RecoveringLoss.{lose_leaves}
-
-same_ok : {A E : Type 0} (one other : A) → ◌≡◌ {A = Result A E} (Ok one) (Ok other) → one ≡ other
-same_ok one other is = cc
 
 -- What a slot holds is one newest copy.
 pub one_held : {D : Type 0} (disks : BayState D) (all others : List (Option Newest)) → AreHeldOn disks all → AreHeldOn disks others → (slot : ℕ) (one other : Newest)
@@ -82,11 +81,11 @@ recovered_on timestamp native k disk at = by (some native.absent) at
     by : (b : Bool) → slice_get (if b then map levelled (lost_step timestamp native).disks else map (mended_or_kept timestamp native) (seated native)) k ≡ Some disk
         → (j : ℕ) × (before : Seated) × (slice_get (seated native) j ≡ Some before) × (before.seat.slot ≡ disk.seat.slot)
     by true here =
-        let made = map_get levelled (lost_step timestamp native).disks k disk here in
+        let made = in_map levelled (lost_step timestamp native).disks k disk here in
         let own = renewed (seated native) (leading native) (config_lost native) timestamp k made.0 made.1 in
         (own.place, own.disk, own.at, ap (λ (one : Seated). one.seat.slot) own.is_made ∙ ap (λ (one : Seated). one.seat.slot) made.2)
     by false here =
-        let before = map_get (mended_or_kept timestamp native) (seated native) k disk here in
+        let before = in_map (mended_or_kept timestamp native) (seated native) k disk here in
         (k, before.0, before.1, ap (λ (seat : Seat). seat.slot) (sym (kept_seat before.0)) ∙ ap (λ (one : Seated). one.seat.slot) before.2)
 
 module _ {D : Type 0} (disks : BayState D) (left also_left : List Bool) (named also_named : Option (List ℕ)) (native other : GroupValue) (timestamp : ℕ)
@@ -156,8 +155,8 @@ module _ {D : Type 0} (disks : BayState D) (left also_left : List Bool) (named a
       let both = same_before k disk at in
       let own = seated_is native j before there in
       let found : Some (Some own.found) ≡ Some (Some both.0) = sym own.is_found ∙ ap (slice_get native.newest) same ∙ both.1 in
-      let ones : own.found ≡ both.0 = some_is own.found both.0 (some_is (Some own.found) (Some both.0) found) in
-      let copies : before.copy ≡ disk.copy = some_is before.copy disk.copy (sym own.stands ∙ ap standing_copy ones ∙ both.3) in
+      let ones : own.found ≡ both.0 = same_Some own.found both.0 (same_Some (Some own.found) (Some both.0) found) in
+      let copies : before.copy ≡ disk.copy = same_Some before.copy disk.copy (sym own.stands ∙ ap standing_copy ones ∙ both.3) in
       let was_one = subst (λ (copy : DiskCopy). has_current (config_recovered native) (disk_of (view_of copy)) ≡ true) copies (recovered_current j before there) in
       joins_no_member (config_recovered native) (config_joining other)
       (free timestamp taken.time native other recovery join taken.is_readied taken.assembled taken.other_assembled taken.recovers)
@@ -165,8 +164,8 @@ module _ {D : Type 0} (disks : BayState D) (left also_left : List Bool) (named a
       (λ member. not member.missing) (disk_of (view_of disk.copy)) (brings_members.are_members k disk at).is_current was_one
 
   pub are_apart : AreApart (disks_recovered timestamp native) (seated other)
-  are_apart = all_by_get (λ (disk : Seated). AllByRecursion (λ (own : Seated). disk.seat.slot ≢ own.seat.slot) (disks_recovered timestamp native)) (seated other) (λ k disk at.
-      all_by_get (λ (own : Seated). disk.seat.slot ≢ own.seat.slot) (disks_recovered timestamp native) (λ i own there same.
+  are_apart = all_from (λ (disk : Seated). AllByRecursion (λ (own : Seated). disk.seat.slot ≢ own.seat.slot) (disks_recovered timestamp native)) (seated other) (λ k disk at.
+      all_from (λ (own : Seated). disk.seat.slot ≢ own.seat.slot) (disks_recovered timestamp native) (λ i own there same.
       let on = recovered_on timestamp native i own there in
       apart_before k disk at on.0 on.1 on.2 (on.3 ∙ sym same)))
 
@@ -184,7 +183,7 @@ module _ {D : Type 0} (disks : BayState D) (left also_left : List Bool) (named a
 
   pub same_newest : AllByRecursion (λ disk. slice_get (group_recovered native recovery.recovery).newest disk.seat.slot ≡ slice_get other.newest disk.seat.slot) (seated other)
   same_newest =
-      all_by_get (λ (disk : Seated). slice_get (group_recovered native recovery.recovery).newest disk.seat.slot ≡ slice_get other.newest disk.seat.slot) (seated other)
+      all_from (λ (disk : Seated). slice_get (group_recovered native recovery.recovery).newest disk.seat.slot ≡ slice_get other.newest disk.seat.slot) (seated other)
       (λ k disk at. let both = same_before k disk at in still_kept k disk at ∙ both.1 ∙ sym both.2)
 
   -- So it stands ready to be joined.

@@ -2,15 +2,16 @@
 use Rattle.std.proofs.Common.{◌≡◌, ℕ, ◌<◌, ◌^◌, Bool, true, false, not, List, [], ◌∷◌, ◌++◌, Option, Some, None, Ok, refl, ap, sym, subst}
 use Rattle.std.specs.Prelude.{IfSome, option_map, slice_get}
 use Rattle.std.specs.List.{AllByRecursion}
-use Rattle.std.specs.Option.{option_or}
+use Rattle.std.proofs.lemmas.Bool.{not-false}
+use Rattle.ddf_lemmas.proofs.Options.{none_of_both}
 use Rattle.ddf_config.specs.declared.member.Member.{Member}
-use Rattle.ddf_config.specs.declared.refusal.FullTable.{FullTable}
 use Rattle.ddf_config.specs.declared.refusal.Refusal.{Refusal}
 use Rattle.ddf_config.specs.declared.refusal.Refusal.TheVariants as refusals
 use Rattle.ddf_config.specs.Configuration.{Configuration}
 use Rattle.ddf_config.specs.Refusals.{refuse_if}
 use Rattle.ddf_config.proofs.Firsts.{all_pass}
 use Rattle.ddf_copy.specs.Written.{CanBeCopy}
+use Rattle.ddf_plan.proofs.Made.{not_refused}
 use Rattle.ddf_import.specs.Clash.{join_cause}
 use Rattle.ddf_rewrite.specs.Before.{Before}
 use Rattle.ddf_rewrite.specs.Changing.{CanChange}
@@ -34,22 +35,10 @@ use Rattle.ddf_steps.specs.Steps.{disks_after, stays_in}
 use Rattle.ddf_joining.specs.Telling.{IsSide, native_side, other_side}
 use Rattle.ddf_steps.specs.Trying.{CanTry, Follows}
 use Rattle.ddf_joining.proofs.BothSides.{both_copies, both_held, both_led, few_arrays, have_both}
-use Rattle.ddf_joining.proofs.ImportAnswers.{unrefused}
 use Rattle.ddf_joining.proofs.ImportSides.{both_seated, native_is_side, other_is_side}
 use Rattle.ddf_steps.proofs.OneLength.{HasRoom, can_try_all, has_room, one_length, own_length, room_on}
 use Rattle.ddf_steps.proofs.Rewritten.{capacities}
-
-none_full : (full : Option FullTable) → option_map refusals.Full full ≡ None → full ≡ None
-none_full None h = refl
-none_full (Some table) h = absurd cc
-
-not_full : (one other : Option FullTable) → option_or one other ≡ None → (one ≡ None) × (other ≡ None)
-not_full None other h = (refl, h)
-not_full (Some table) other h = absurd cc
-
-not_none : (b : Bool) → not b ≡ false → b ≡ true
-not_none true h = refl
-not_none false h = absurd cc
+use Rattle.ddf_joining.proofs.JoinReadied.{none_full}
 
 -- What an answer that is Ok says.
 record IsUnrefused (timestamp : ℕ) (native other : GroupValue) (made : Joining) : Type 0 where
@@ -109,7 +98,7 @@ module _ (timestamp : ℕ) (time : timestamp < 2 ^ 32) (native other : GroupValu
   have_seats : has_no_seats native other ≡ false
   unfolding join_refusal
   have_seats =
-      unrefused (has_no_seats native other) refusals.NoGroup
+      not_refused (has_no_seats native other) refusals.NoGroup
       (all_pass [] no_seats (stray ∷ cause ∷ geometry ∷ option_map refusals.Full (full_of_recovery timestamp native) ∷ behind_full) is.free)
 
   -- Nothing of the other group is there.
@@ -126,8 +115,8 @@ module _ (timestamp : ℕ) (time : timestamp < 2 ^ 32) (native other : GroupValu
   some_native : some (disks_recovered timestamp native) ≡ true
   unfolding join_refusal
   some_native =
-      not_none (some (disks_recovered timestamp native))
-      (unrefused (not (some (disks_recovered timestamp native))) refusals.NoGroup
+      not-false (some (disks_recovered timestamp native))
+      (not_refused (not (some (disks_recovered timestamp native))) refusals.NoGroup
       (all_pass (no_seats ∷ stray ∷ cause ∷ geometry ∷ option_map refusals.Full (full_of_recovery timestamp native) ∷ []) none_left
       (option_map refusals.Full (full_of_join timestamp native other) ∷ bad_refusal other.seats ∷ []) is.free))
 
@@ -159,7 +148,7 @@ module _ (timestamp : ℕ) (time : timestamp < 2 ^ 32) (native other : GroupValu
   its_side = other_is_side other other_is (both_seated native other have_seats).1
 
   full_none : (full_of_entries (many_disks timestamp native other) (many_arrays native other) ≡ None) × (full_of timestamp leaders next both ≡ None)
-  full_none = not_full (full_of_entries (many_disks timestamp native other) (many_arrays native other)) (full_of timestamp leaders next both) join_fits
+  full_none = none_of_both (full_of_entries (many_disks timestamp native other) (many_arrays native other)) (full_of timestamp leaders next both) join_fits
 
   room : HasRoom timestamp leaders next both
   room = has_room timestamp leaders next both full_none.1

@@ -1,8 +1,9 @@
 -- A label of all disks of a bay in memory begins a history: there is one that is told of, and the names are new.
-use Rattle.std.proofs.Common.{◌≡◌, ◌∙◌, ℕ, zero, suc, ◌+◌, ◌<◌, ◌≤◌, ◌==◌, Bool, true, false, List, [], ◌∷◌, length, filter, Some, Ok, if◌then◌else◌, refl, sym, ap, subst, inl, inr, ◌⊎◌, arith}
+use Rattle.std.proofs.Common.{◌≡◌, ◌∙◌, ℕ, zero, suc, ◌+◌, ◌<◌, ◌≤◌, ◌==◌, Bool, true, false, List, [], ◌∷◌, length, Some, Ok, if◌then◌else◌, refl, sym, ap, subst, inl, inr, ◌⊎◌, arith}
 use Rattle.std.proofs.lemmas.Bool.{cases_lt, false_from_ne_true, lt-ltb, ltb-true, eq-eqb}
 use Rattle.std.specs.Prelude.{nat_lt, slice_get}
 use Rattle.std.specs.List.{list_any, range_with_len}
+use Rattle.ddf_lemmas.proofs.Lists.{range_get}
 use Rattle.ddf_bytes.specs.declared.stamp.Stamp.{Stamp}
 use Rattle.ddf_header.specs.declared.kind.Revision.{Revision}
 use Rattle.ddf_bay.specs.Memory.{disks_of}
@@ -22,22 +23,14 @@ use Rattle.ddf_history_steps.proofs.FoundedMember.{all_founded, founded_listed}
 use Rattle.ddf_history_steps.proofs.Founding.{founded_since}
 use Rattle.ddf_answer.specs.Call.{work_of}
 use Rattle.ddf_disk_commands.specs.Label.{IsTried, label_copy, label_slots}
-use Rattle.ddf_disk_commands.specs.LabelRefusal.{is_chosen, label_layout}
+use Rattle.ddf_disk_commands.specs.LabelRefusal.{label_layout}
 use Rattle.ddf_disk_commands.proofs.Chosen.{chosen_once}
+use Rattle.ddf_disk_commands.proofs.Common.{all_chosen}
 use Rattle.ddf_history_memory.proofs.Slots.{reads_left}
 use Rattle.ddf_history_memory.proofs.Strangers.{strange, stranger}
 use Rattle.ddf_history_life.specs.Commands.{IsBegun}
 
 -- ---- all slots
-
-all_chosen : (a n : ℕ) → filter (is_chosen []) (range_with_len a n) ≡ range_with_len a n
-all_chosen a zero = refl
-all_chosen a (suc n) = ap (λ (rest : List ℕ). a ∷ rest) (all_chosen (a + 1) n)
-
-range_at : (a n place slot : ℕ) → slice_get (range_with_len a n) place ≡ Some slot → (slot ≡ a + place) × (place < n)
-range_at a zero place slot at = absurd cc
-range_at a (suc n) zero slot at = (let same : a ≡ slot = cc in omega (arith, same), omega arith)
-range_at a (suc n) (suc place) slot at = let rest = range_at (a + 1) n place slot at in (let same = rest.0 in omega (arith, same), let low = rest.1 in omega (arith, low))
 
 cases_le : (a b : ℕ) → a ≤ b → (a ≡ b) ⊎ (a < b)
 cases_le a b le = elim (cases_lt a b) [
@@ -105,7 +98,7 @@ module _ (group : List ℕ) (sizes : List ℕ) (copy : ℕ → DiskCopy) where
     returned_none = λ slot. refl;
     same_slots = refl;
     names = λ place slot at founded.
-        let there = range_at 0 (length sizes) place slot (subst (λ (slots : List ℕ). slice_get slots place ≡ Some slot) (slots_are sizes) at) in
+        let there = range_get 0 (length sizes) place slot (subst (λ (slots : List ℕ). slice_get slots place ≡ Some slot) (slots_are sizes) at) in
         let same : slot ≡ place = (let is = there.0 in omega (arith, is)) in
         let low : slot < length sizes = (let is = there.1 in omega (arith, same, is)) in
         named_in slot low ∙ ap (λ (k : ℕ). disk_of (view_of (copy k))) same;

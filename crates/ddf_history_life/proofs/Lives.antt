@@ -1,7 +1,8 @@
 -- A life of a group on disks in memory, step by step.
-use Rattle.std.proofs.Common.{◌≡◌, ◌≢◌, ◌∙◌, ℕ, zero, suc, ◌<◌, ◌==◌, ◌&&◌, ◌||◌, not, Bool, true, false, List, [], ◌∷◌, length, Result, Ok, Err, refl, sym, ap, subst, arith}
+use Rattle.std.proofs.Common.{◌≡◌, ◌∙◌, ℕ, ◌<◌, ◌==◌, ◌&&◌, ◌||◌, not, Bool, true, false, List, [], length, Result, Ok, Err, sym, ap, subst, arith}
 use Rattle.std.proofs.lemmas.Bool.{eqb-true}
-use Rattle.std.specs.Prelude.{slice_index_or, slice_set}
+use Rattle.std.specs.Prelude.{slice_index_or}
+use Rattle.ddf_lemmas.proofs.Lists.{set_true_other}
 use Rattle.ddf_bytes.specs.declared.stamp.Stamp.{Stamp}
 use Rattle.ddf_header.specs.declared.kind.Revision.{Revision}
 use Rattle.ddf_bay.specs.Memory.{MemoryState, disks_of}
@@ -27,14 +28,6 @@ use Rattle.ddf_history_life.specs.Commands.{IsBegun, IsCommand}
 use Rattle.ddf_history_life.specs.Life.{IsLife, Outlives}
 use Rattle.ddf_history_life.proofs.Commands.{acked_then, asked_changes, asked_cut, asked_ends, command_tells, taken}
 use Rattle.ddf_history_life.proofs.Labels.{label_begins}
-
--- A slot that isn't the one that was unplugged is as it was.
-set_other : (unplugged : List Bool) (slot s : ℕ) → s ≢ slot → slice_index_or (slice_set unplugged slot true) s false ≡ true → slice_index_or unplugged s false ≡ true
-set_other [] slot s apart is = is
-set_other (one ∷ others) zero zero apart is = absurd (apart refl)
-set_other (one ∷ others) zero (suc s) apart is = is
-set_other (one ∷ others) (suc slot) zero apart is = is
-set_other (one ∷ others) (suc slot) (suc s) apart is = set_other others slot s (λ same. apart (ap suc same)) is
 
 -- Calls leave what is unplugged.
 gone_before : (old exit : MemoryBay) {group : List ℕ} (command : IsCommand group old exit) (slot : ℕ) → (disks_of exit).gone slot → (disks_of old).gone slot
@@ -129,7 +122,7 @@ module _ (large : Bool) (revision : Revision) (stamp : Stamp) (kept lost : ℕ) 
 
   kept_without : (disks_of life.without_one).gone kept → ⊥
   kept_without gone =
-      life.kept_cut (set_other life.cut.unplugged lost kept life.apart
+      life.kept_cut (set_true_other life.cut.unplugged lost kept life.apart
       (ap (λ (state : MemoryState). slice_index_or state.unplugged kept false) (sym life.is_unplugged) ∙ gone))
 
   same_without : (disks_of life.without_one).sizes ≡ sizes

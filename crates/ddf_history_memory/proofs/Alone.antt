@@ -3,8 +3,8 @@ use Rattle.std.proofs.Common.{◌≡◌, ◌∙◌, ℕ, ◌<◌, ◌&&◌, ◌|
 use Rattle.std.proofs.lemmas.Bool.{and_parts, cases_lt, false≢true}
 use Rattle.std.specs.Option.{option_map_or}
 use Rattle.std.specs.Str.{bytes_eq}
+use Rattle.ddf_lemmas.proofs.Lists.{bytes_same}
 use Rattle.ddf_copy.specs.declared.newest_copy.Newest.{Newest}
-use Rattle.ddf_view.proofs.Tests.{bytes_same, same_bytes}
 use Rattle.ddf_group.specs.declared.shown.Shown.{Shown}
 use Rattle.ddf_group.specs.declared.answer.Assembly.{Assembly}
 use Rattle.ddf_group.specs.declared.answer.Assembly.TheVariants as faults
@@ -15,6 +15,8 @@ use Rattle.ddf_group.specs.Slots.{claims, group_shown, shows_group, slot_at}
 use Rattle.ddf_history.proofs.AnsweredLists.{each_below, found_passes, missed_below, none_below, some_below}
 use Rattle.ddf_history.proofs.AnsweredSlots.{nothing_past}
 use Rattle.ddf_assembly.specs.Group.{group_of, group_or_fault}
+use Rattle.ddf_recovery.proofs.LeftChoice.{within}
+use Rattle.ddf_history_steps.proofs.Alone.{name_shown}
 
 module _ (slots : List Shown) (group : List ℕ) (slot : ℕ) (shows : shows_group group (slot_at slots slot) ≡ true) where
   there : slot < length slots
@@ -44,17 +46,6 @@ module _ (slots : List Shown) (group : List ℕ) (slot : ℕ) (shows : shows_gro
       by true is = let some = some_below (absorbs_at slots group) (length slots) is in absurd (at_other some.0 (group_shown (slot_at slots some.0)) refl some.1)
 
 -- ---- a call that names none
-
-name_shown : (group : List ℕ) (found : Option (List ℕ)) → option_map_or (bytes_eq group) found false ≡ true → found ≡ Some group
-name_shown group None shows = absurd (false≢true shows)
-name_shown group (Some own) shows = ap (λ (name : List ℕ). Some name) (sym (same_bytes group own shows))
-
--- a slot that shows a group is one of the slots
-within : (slots : List Shown) (slot : ℕ) (group : List ℕ) → group_shown (slot_at slots slot) ≡ Some group → slot < length slots
-within slots slot group at = elim (cases_lt slot (length slots)) [
-  | inl less ↦ less
-  | inr past ↦ absurd (let none = rw (nothing_past slots slot past) at at in cc)
-]
 
 module _ (slots : List Shown) (group : List ℕ) (alone : (slot : ℕ) (other : List ℕ) → group_shown (slot_at slots slot) ≡ Some other → other ≡ group) where
   -- A slot that shows a group shows this one, and no other absorbs it.

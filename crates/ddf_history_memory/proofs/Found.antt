@@ -6,6 +6,8 @@ use Rattle.std.specs.Prelude.{IfSome, filter, slice_get, slice_index}
 use Rattle.std.specs.List.{list_any}
 use Rattle.std.specs.Map.{lookup}
 use Rattle.std.specs.Str.{bytes_eq}
+use Rattle.ddf_lemmas.proofs.Lists.{filtered_passes, mapped_at}
+use Rattle.ddf_lemmas.proofs.Options.{value_there}
 use Rattle.ddf_bay.specs.Sectors.{Image}
 use Rattle.ddf_bay.specs.State.{BayState}
 use Rattle.ddf_config.specs.declared.member.Member.{Member}
@@ -14,7 +16,7 @@ use Rattle.ddf_copy.specs.declared.newest_copy.Newest.TheVariants as newests
 use Rattle.ddf_copy.specs.Copies.{newest_at}
 use Rattle.ddf_copy.specs.Whole.{IsNewestCopy, IsNewestUnder}
 use Rattle.ddf_header.specs.declared.reading.Header.{Header}
-use Rattle.ddf_rewrite.proofs.Lists.{all_at, get_map}
+use Rattle.ddf_rewrite.proofs.Lists.{all_at}
 use Rattle.ddf_view.specs.Differ.{difference}
 use Rattle.ddf_view.specs.View.{View, view_of}
 use Rattle.ddf_view.specs.declared.difference.Difference.{Difference}
@@ -36,7 +38,6 @@ use Rattle.ddf_history.specs.Reading.{IsCopyOf, IsFirstOf, Scene, Shown}
 use Rattle.ddf_history.specs.Reading.Shown.{Differ, Nothing, One}
 use Rattle.ddf_history.specs.Scenes.{answer_of, scene_in, scene_of, told_of}
 use Rattle.ddf_history.proofs.AnsweredSlots.{claimed_by, copy_within, leader_leads}
-use Rattle.ddf_history.proofs.Listed.{value_there}
 use Rattle.ddf_history.proofs.Since.{first_is_copy, first_there}
 use Rattle.ddf_history.proofs.Sound.{groups_are_sound}
 use Rattle.ddf_history.proofs.Starting.{found_kept}
@@ -46,7 +47,7 @@ use Rattle.ddf_assembly.specs.Reading.{AreNewest}
 use Rattle.ddf_assembly.specs.Settled.{IsSettledGroup}
 use Rattle.ddf_assembly.specs.Slots.{newest_from}
 use Rattle.ddf_assembly.proofs.LeftBefore as groups_left
-use Rattle.ddf_assembly.proofs.LeftBefore.{IsClaimedDisk, IsFoundAs, claimed_disk, disks_claimed, found_by, kept_at, leader_claimed, level_at, none_gone}
+use Rattle.ddf_assembly.proofs.LeftBefore.{IsClaimedDisk, IsFoundAs, claimed_disk, disks_claimed, found_by, leader_claimed, level_at, none_gone}
 use Rattle.ddf_assembly.proofs.Settled.{settled}
 use Rattle.ddf_seats.specs.Seated.{seated}
 use Rattle.ddf_history_steps.specs.Kept.{is_read}
@@ -317,8 +318,8 @@ module _ (group : List ℕ) {D : Type 0} (state : BayState D) (left : List Bool)
         by false none =
             let here = (and_parts (bytes_eq entry.0.guid disk.guid) (not entry.0.missing) entry.2).1 in
             let passes : is_absent slots claimed_slots (at_place.1, entry.0) ≡ true = rw (here, none) refl in
-            let there = kept_at (is_absent slots claimed_slots) g.config.members at_place.0 (at_place.1, entry.0) at_place.2 passes in
-            let listed = get_map (λ (one : ℕ × Member). one.0) (filter (is_absent slots claimed_slots) g.config.members) there.0 (at_place.1, entry.0) there.1 in
+            let there = filtered_passes (is_absent slots claimed_slots) g.config.members at_place.0 (at_place.1, entry.0) at_place.2 passes in
+            let listed = mapped_at (λ (one : ℕ × Member). one.0) (filter (is_absent slots claimed_slots) g.config.members) there.0 (at_place.1, entry.0) there.1 in
             let nothing : slice_get [] there.0 ≡ Some at_place.1 = subst (λ (all : List ℕ). slice_get all there.0 ≡ Some at_place.1) none_absent listed in
             absurd (let impossible = nothing in cc)
 

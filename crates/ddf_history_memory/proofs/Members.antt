@@ -2,6 +2,7 @@
 use Rattle.std.proofs.Common.{◌≡◌, ◌∙◌, ℕ, ◌<◌, Bool, true, false, List, length, Some, Ok, refl, ap, subst, arith}
 use Rattle.std.proofs.lemmas.Bool.{false_from_ne_true}
 use Rattle.std.specs.Prelude.{slice_get}
+use Rattle.std.proofs.lemmas.Option.{slice_get_within}
 use Rattle.ddf_bay.specs.Memory.{disks_of}
 use Rattle.ddf_bay.specs.declared.memory.MemoryBay.{MemoryBay}
 use Rattle.ddf_config.specs.Configuration.{Configuration}
@@ -12,7 +13,6 @@ use Rattle.ddf_history.specs.Groups.{Disk, groups, has_current, has_missing}
 use Rattle.ddf_history.specs.Issued.{IsSince, Past}
 use Rattle.ddf_history.specs.Promise.{IsKept}
 use Rattle.ddf_history.specs.Scenes.{scene_of}
-use Rattle.ddf_history.proofs.Lists.{get_within}
 use Rattle.ddf_seats.specs.Group.{GroupValue}
 use Rattle.ddf_recovery.specs.Ready.{readied}
 use Rattle.ddf_assembly.specs.Slots.{newest_from}
@@ -81,7 +81,7 @@ module _ (group : List ℕ) (past now : Past (groups group)) (old exit : MemoryB
   left_missing number config since =
       let last = lefts.last_misses found asked timestamp steps are (past.disk slot) current among in
       let long = over_length group past (is_read readable) found (changes_in found steps) now over in
-      let within = get_within now.changes.issued number config since.is_there in
+      let within = slice_get_within now.changes.issued number config since.is_there in
       let late = since.late in
       let at_last : number ≡ now.changes.acked = omega (arith, long, within, late) in
       let here : slice_get now.changes.issued now.changes.acked ≡ Some config = subst (λ (n : ℕ). slice_get now.changes.issued n ≡ Some config) at_last since.is_there in

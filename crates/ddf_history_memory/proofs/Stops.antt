@@ -3,12 +3,12 @@ use Rattle.std.proofs.Common.{◌≡◌, ◌∙◌, ℕ, zero, suc, ◌<◌, ◌
 use Rattle.std.proofs.Math.Path.{fun_ext}
 use Rattle.std.proofs.lemmas.Bool.{and_parts, eqb-true, false_from_ne_true, false≢true, not-true, or_cases}
 use Rattle.std.specs.Prelude.{slice_index_or, slice_set}
+use Rattle.ddf_lemmas.proofs.Lists.{bytes_same}
 use Rattle.ddf_bay.specs.Memory.{MemoryState, disks_of, state_of, without}
 use Rattle.ddf_bay.specs.Sectors.{Image, IsLeft}
 use Rattle.ddf_bay.specs.declared.memory.MemoryBay.{MemoryBay}
 use Rattle.ddf_config.specs.Configuration.{Configuration}
 use Rattle.ddf_view.specs.View.{View}
-use Rattle.ddf_view.proofs.Tests.{bytes_same}
 use Rattle.ddf_history.specs.Groups.{groups, has_missing}
 use Rattle.ddf_history.specs.Issued.{IsSince, Past, give_back, lose}
 use Rattle.ddf_history.specs.Promise.{IsKept}

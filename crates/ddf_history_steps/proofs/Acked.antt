@@ -1,10 +1,11 @@
 -- What was acknowledged stays in the list, however far a call came.
 use Rattle.std.proofs.Common.{◌≡◌, ℕ, ◌+◌, ◌≤◌, Bool, true, false, List, [], ◌∷◌, take, Some, slice_get, inl, inr, ⊎_elim, if◌then◌else◌, arith}
+use Rattle.ddf_lemmas.proofs.Lists.{first_get}
 use Rattle.ddf_config.specs.Configuration.{Configuration}
 use Rattle.ddf_history.specs.Groups.{groups}
 use Rattle.ddf_history.specs.History.{KeepsAcked}
 use Rattle.ddf_history.specs.Issued.{Past, issue, leave_out, take_off}
-use Rattle.ddf_history.proofs.Lists.{get_kept, taken_get}
+use Rattle.ddf_history.proofs.Lists.{taken_get}
 use Rattle.ddf_seats.specs.Group.{GroupValue}
 use Rattle.ddf_seats.specs.Leading.{some}
 use Rattle.ddf_history_steps.specs.Going.{Ends, Goes, IsOver, IsUnderway, begun, issue_all}
@@ -14,7 +15,7 @@ module _ (group : List ℕ) where
   pub issued_stays : (past : Past (groups group)) (changes : List Configuration) (i : ℕ) (config : Configuration)
       → slice_get past.changes.issued i ≡ Some config → slice_get (issue_all group past changes).changes.issued i ≡ Some config
   issued_stays past [] i config at = at
-  issued_stays past (next ∷ others) i config at = issued_stays (issue past next) others i config (get_kept past.changes.issued (next ∷ []) i config at)
+  issued_stays past (next ∷ others) i config at = issued_stays (issue past next) others i config (first_get past.changes.issued (next ∷ []) i config at)
 
   -- those up to the one that was assembled stay where they are
   begun_stays : (past : Past (groups group)) (readable : ℕ → Bool) (found : GroupValue) (number i : ℕ) (config : Configuration) → i ≤ number

@@ -1,18 +1,17 @@
 -- A copy that is read from sectors of bytes is read again from what it is written as, so that level copies say the same.
-use Rattle.std.proofs.Common.{◌≡◌, ◌⊎◌, ℕ, zero, suc, ◌+◌, ◌*◌, ◌-◌, ◌<◌, ◌≤◌, cond, Bool, true, false, List, length, map, Option, Some, None, Result, Ok, Err, refl, ap, sym, ◌∙◌, inl, inr, arith, subst, length-append, ltb}
+use Rattle.std.proofs.Common.{◌≡◌, ℕ, zero, suc, ◌+◌, ◌*◌, ◌-◌, ◌<◌, ◌≤◌, List, length, map, Option, Some, None, Result, Ok, Err, refl, ap, sym, ◌∙◌, inl, inr, arith, subst, length-append, ltb}
 use Rattle.std.proofs.lemmas.Bool.{cases_lt}
 use Rattle.std.proofs.lemmas.List.{get_or-append_right, get_or_append_left}
 use Rattle.std.specs.Prelude.{IfOk, slice_get}
 use Rattle.std.specs.List.{range_with_len}
 use Rattle.ddf_bytes.specs.Choices.{first_of, ok_unless}
 use Rattle.ddf_seal.specs.Unread.{AreBytes}
-use Rattle.ddf_seal.specs.declared.sealing.SealFault.{SealFault}
 use Rattle.ddf_header.specs.declared.geometry.Geometry.{Geometry}
 use Rattle.ddf_header.specs.declared.reading.Header.{Header}
-use Rattle.ddf_header.specs.declared.fault.HeaderFault.{HeaderFault}
 use Rattle.ddf_header.specs.Geometry.{IsSound, geometry_at, least_bytes, section_of}
 use Rattle.ddf_header.specs.Header.{decoded}
 use Rattle.ddf_header.proofs.Decoded.{decoded_sound}
+use Rattle.ddf_header.proofs.Common.{eight_read}
 use Rattle.ddf_tables.specs.declared.fault.TableFault.{TableFault}
 use Rattle.ddf_tables.specs.declared.layout.TheConstants.{ROWS_AT, ROW_BYTES}
 use Rattle.ddf_tables.specs.Arrays.{array_signature, decoded_arrays}
@@ -34,20 +33,20 @@ use Rattle.ddf_config_records.proofs.SlotValues.{slot_again}
 use Rattle.ddf_config_records.proofs.Sound.{room_from_sound}
 use Rattle.ddf_copy.specs.declared.copy.DiskCopy.{DiskCopy}
 use Rattle.ddf_copy.specs.declared.fault.CopyFault.{CopyFault}
-use Rattle.ddf_copy.specs.declared.fault.CopyFault.TheVariants as faults
-use Rattle.ddf_copy.specs.declared.fault.SectionName.{SectionName}
 use Rattle.ddf_copy.specs.declared.fault.SectionName.TheVariants as names
 use Rattle.ddf_copy.specs.declared.raw.Raw.{Raw}
 use Rattle.ddf_copy.specs.declared.which.Which.{Which}
 use Rattle.ddf_copy.specs.declared.which.Which.TheVariants.{Primary, Secondary}
 use Rattle.ddf_copy.specs.Copies.{copy_of}
-use Rattle.ddf_copy.specs.Gate.{gate_fault, gated, header_bytes, header_in, header_of}
+use Rattle.ddf_copy.specs.Gate.{gated, header_bytes, header_in, header_of}
 use Rattle.ddf_copy.specs.Sections.{and_then, bytes_in, copy_in, in_section, in_sector, in_slots, log_in, raw_at, whole_slots}
 use Rattle.ddf_copy.specs.Which.{kind_of, place_of}
 use Rattle.ddf_copy.specs.Written.{arrays_written, disk_data_written, disks_written}
-use Rattle.ddf_copy.proofs.Gates.{IsFound, found_is}
+use Rattle.ddf_copy.proofs.Gates.{IsFound, found_is, placed_parts}
 use Rattle.ddf_copy.proofs.Laid.{section_found}
 use Rattle.ddf_copy.proofs.Shared.{AreShared, shared_geometry, shared_guid}
+use Rattle.ddf_copy.proofs.Common.{gated_read, in_section_ok, in_sector_ok}
+use Rattle.ddf_copy.proofs.LastCopies.{ok_or}
 use Rattle.ddf_view.specs.Readings.{IsAsRead}
 use Rattle.ddf_view.proofs.Level.{level_views}
 use Rattle.ddf_history_steps.specs.Kept.{HoldsBytes, SaysOne}
@@ -75,16 +74,6 @@ module _ (sector : ℕ → List ℕ) (holds : HoldsBytes sector) where
 
 -- ---- the parts of a copy
 
--- What is read of a section without a fault.
-section_ok : {T : Type 0} (name : SectionName) (read : Result T TableFault) (value : T) → in_section name read ≡ Ok value → read ≡ Ok value
-section_ok name (Ok found) value is = ap Ok (let same : found ≡ value = cc in same)
-section_ok name (Err fault) value is = absurd cc
-
--- The same of a section of one sector.
-sector_ok : {T : Type 0} (name : SectionName) (read : Result T SealFault) (value : T) → in_sector name read ≡ Ok value → read ≡ Ok value
-sector_ok name (Ok found) value is = ap Ok (let same : found ≡ value = cc in same)
-sector_ok name (Err fault) value is = absurd cc
-
 -- The same of the configuration records.
 slots_ok : (read : Result (List RecordSlot) SlotFault) (value : List RecordSlot) → in_slots read ≡ Ok value → read ≡ Ok value
 slots_ok (Ok found) value is = ap Ok (let same : found ≡ value = cc in same)
@@ -104,11 +93,6 @@ abbrev ArePartsOf : Header → Raw → Result DiskCopy CopyFault → Type 0
 ArePartsOf header raw (Ok copy) = HasParts header raw copy
 ArePartsOf header raw (Err fault) = Unit {0}
 
--- What is read is good, or has a fault.
-ok_or : {A : Type 0} (read : Result A CopyFault) → ((value : A) × (read ≡ Ok value)) ⊎ ((fault : CopyFault) × (read ≡ Err fault))
-ok_or (Ok value) = inl (value, refl)
-ok_or (Err fault) = inr (fault, refl)
-
 -- A copy that is read has its parts.
 parts_in : (header : Header) (raw : Raw) → ArePartsOf header raw (copy_in header raw)
 unfolding copy_in
@@ -120,10 +104,10 @@ parts_in header raw = elim (ok_or (in_sector names.Controller (decoded_controlle
           | inl disk_data ↦ elim (ok_or (log_in raw.bad_blocks)) [
             | inl bad ↦ rw (controller.1, disks.1, arrays.1, slots.1, disk_data.1, bad.1) (record {
               header_is = refl;
-              disks_are = section_ok names.Disks (decoded_disks header.geometry.max_disks (bytes_in raw.disks)) disks.0 disks.1;
-              arrays_are = section_ok names.Arrays (decoded_arrays header.geometry.max_arrays (bytes_in raw.arrays)) arrays.0 arrays.1;
+              disks_are = in_section_ok names.Disks (decoded_disks header.geometry.max_disks (bytes_in raw.disks)) disks.0 disks.1;
+              arrays_are = in_section_ok names.Arrays (decoded_arrays header.geometry.max_arrays (bytes_in raw.arrays)) arrays.0 arrays.1;
               slots_are = slots_ok (decoded_slots header.geometry header.guid header.sequence (bytes_in raw.records)) slots.0 slots.1;
-              data_is = sector_ok names.DiskData (decoded_disk_data raw.disk_data) disk_data.0 disk_data.1;
+              data_is = in_sector_ok names.DiskData (decoded_disk_data raw.disk_data) disk_data.0 disk_data.1;
             })
             | inr fault ↦ rw (controller.1, disks.1, arrays.1, slots.1, disk_data.1, fault.1) tt
           ]
@@ -167,17 +151,6 @@ ok_parts : {T E : Type 0} (o : Option E) (value found : T) → ok_unless o value
 ok_parts None value found h = (refl, cc)
 ok_parts (Some e) value found h = absurd cc
 
--- A header without a fault is what its sector is read as.
-gated_parts : (size : ℕ) (anchor : Header) (which : Which) (sector : List ℕ) (read : Result Header HeaderFault) (header : Header)
-    → gated size anchor which sector read ≡ Ok header → read ≡ Ok header
-gated_parts size anchor which sector (Ok value) header h = ap Ok (ok_parts (gate_fault size anchor which value sector) value header h).1
-gated_parts size anchor which sector (Err fault) header h = absurd cc
-
--- A header that is found stands on its disk.
-placed_parts : (within : Bool) (found : Result Header CopyFault) (header : Header) → cond within found (Err (faults.Room 0)) ≡ Ok header → found ≡ Ok header
-placed_parts true found header h = h
-placed_parts false found header h = absurd cc
-
 -- What is asked of all that is read without a fault holds of this.
 good_has : {A E : Type 0} (P : A → Type 0) (read : Result A E) (value : A) → read ≡ Ok value → IfOk read P → P value
 good_has P (Ok other) value is has = let same : other ≡ value = cc in subst P same has
@@ -190,20 +163,15 @@ unfolding header_of header_in
 header_sound size sector anchor which header holds h =
     let bytes = sector (place_of which anchor) in
     let placed = placed_parts (ltb (place_of which anchor) size) (gated size anchor which bytes (decoded (kind_of which) bytes)) header h in
-    let read = gated_parts size anchor which bytes (decoded (kind_of which) bytes) header placed in
+    let read = gated_read size anchor which bytes (decoded (kind_of which) bytes) header placed in
     good_has (λ (one : Header). IsSound one.geometry) (decoded (kind_of which) bytes) header read
     (decoded_sound (kind_of which) bytes (decoded (kind_of which) bytes) ((holds (place_of which anchor)).size) ((holds (place_of which anchor)).are_bytes) refl)
-
--- A layout has eight sections.
-eight : (bytes : List ℕ) → length (geometry_at bytes).sections ≡ 8
-unfolding geometry_at
-eight bytes = refl
 
 -- A section that has to be there has the bytes that it needs at least.
 section_holds : (geometry : Geometry) (bytes : List ℕ) (index : ℕ) → geometry ≡ geometry_at bytes → IsSound geometry → index < 5
     → least_bytes geometry index ≤ 512 * (section_of geometry index).length
 section_holds geometry bytes index is sound below =
-    let good = sound.sections_good index (section_of geometry index) (section_found geometry index (ap (λ (one : Geometry). length one.sections) is ∙ eight bytes) (omega arith)) in
+    let good = sound.sections_good index (section_of geometry index) (section_found geometry index (ap (λ (one : Geometry). length one.sections) is ∙ eight_read bytes) (omega arith)) in
     good.long_enough (good.needed below)
 
 -- ---- what is read again

@@ -1,12 +1,14 @@
 -- The group that is meant where none is named.
 use Rattle.std.proofs.Common.{◌≡◌, ◌⊎◌, ℕ, ◌<◌, ◌&&◌, not, Bool, true, false, List, length, map, Option, Some, None, Result, Ok, Err, if◌then◌else◌, refl, ap, sym, ◌∙◌, inl, inr, subst}
-use Rattle.std.proofs.lemmas.Bool.{cases_lt, false≢true}
+use Rattle.std.proofs.lemmas.Bool.{false≢true}
 use Rattle.std.specs.Option.{option_map_or}
 use Rattle.std.specs.Str.{bytes_eq}
+use Rattle.std.proofs.lemmas.Option.{same_Some}
+use Rattle.ddf_lemmas.proofs.Lists.{bytes_same}
 use Rattle.ddf_bay.specs.State.{BayState}
 use Rattle.ddf_copy.specs.declared.newest_copy.Newest.{Newest}
 use Rattle.ddf_view.specs.View.{View}
-use Rattle.ddf_view.proofs.Tests.{bytes_same, same_bytes}
+use Rattle.ddf_view.proofs.Tests.{same_bytes}
 use Rattle.ddf_group.specs.declared.shown.Shown.{Shown as GroupShown}
 use Rattle.ddf_group.specs.declared.answer.Assembly.{Assembly}
 use Rattle.ddf_group.specs.declared.answer.Assembly.TheVariants as faults
@@ -22,26 +24,19 @@ use Rattle.ddf_history.specs.Answer.{HasMember, IsPromised, IsReadable}
 use Rattle.ddf_history.specs.Groups.{groups}
 use Rattle.ddf_history.specs.Scenes.{scene_of}
 use Rattle.ddf_history.proofs.AnsweredLists.{found_passes, missed_below}
-use Rattle.ddf_history.proofs.AnsweredSlots.{nothing_past, slot_shows}
-use Rattle.ddf_history.proofs.Since.{some_is}
+use Rattle.ddf_history.proofs.AnsweredSlots.{slot_shows}
 use Rattle.ddf_seats.specs.Group.{GroupValue}
 use Rattle.ddf_assembly.specs.Group.{group_of, group_or_fault}
 use Rattle.ddf_assembly.specs.Slots.{newest_from}
+use Rattle.ddf_recovery.proofs.LeftChoice.{within}
 use Rattle.ddf_history_steps.specs.Kept.{is_read, told_answer}
 use Rattle.ddf_history_steps.proofs.Begun.{group_answered}
 use Rattle.ddf_history_steps.proofs.Told.{chosen_shows, found_name, one_group, scene_told}
 
 -- A slot that shows a group shows it by its name.
-name_shown : (group : List ℕ) (found : Option (List ℕ)) → option_map_or (bytes_eq group) found false ≡ true → found ≡ Some group
+pub name_shown : (group : List ℕ) (found : Option (List ℕ)) → option_map_or (bytes_eq group) found false ≡ true → found ≡ Some group
 name_shown group None shows = absurd (false≢true shows)
 name_shown group (Some own) shows = ap (λ (name : List ℕ). Some name) (sym (same_bytes group own shows))
-
--- It is one of the slots.
-within : (slots : List GroupShown) (slot : ℕ) (group : List ℕ) → group_shown (slot_at slots slot) ≡ Some group → slot < length slots
-within slots slot group at = elim (cases_lt slot (length slots)) [
-  | inl less ↦ less
-  | inr past ↦ absurd (let none = rw (nothing_past slots slot past) at at in cc)
-]
 
 -- ---- the choice
 
@@ -69,7 +64,7 @@ module _ (slots : List GroupShown) (group : List ℕ) (slot : ℕ) (shows : show
       fails = missed_below (λ s. not (shows_group found (slot_at slots s)) && shows_free slots s) (length slots) none slot below
 
       by : (b : Bool) → shows_group found (slot_at slots slot) ≡ b → found ≡ group
-      by true e = sym (some_is group found (sym own ∙ name_shown found (group_shown (slot_at slots slot)) e))
+      by true e = sym (same_Some group found (sym own ∙ name_shown found (group_shown (slot_at slots slot)) e))
       by false e = absurd (false≢true (sym fails ∙ ap (λ b. not b && shows_free slots slot) e ∙ is_free))
 
   by_other : (first : ℕ) (found : List ℕ) (other : Option ℕ) → other_free slots found ≡ other → IsMeant (unless_other first found other)

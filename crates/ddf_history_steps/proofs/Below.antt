@@ -1,8 +1,9 @@
 -- Calls that write below the floors leave a group at the end of its history there.
-use Rattle.std.proofs.Common.{◌≡◌, ◌⊎◌, ℕ, ◌<◌, ◌≤◌, nat_lt, Bool, List, length, Result, Ok, if◌then◌else◌, inl, inr, sym, ap, subst, ◌∙◌, arith}
+use Rattle.std.proofs.Common.{◌≡◌, ◌⊎◌, ℕ, ◌<◌, ◌≤◌, nat_lt, Bool, List, length, Ok, if◌then◌else◌, inl, inr, sym, ap, subst, ◌∙◌, arith}
 use Rattle.std.proofs.lemmas.Bool.{cases_lt, le-ltb, lt-ltb}
 use Rattle.std.proofs.Math.Path.{fun_ext}
 use Rattle.std.specs.Prelude.{slice_index}
+use Rattle.ddf_lemmas.proofs.Options.{ok_is}
 use Rattle.ddf_header.specs.declared.reading.Header.{Header}
 use Rattle.ddf_bay.specs.Moments.{StopsLeave}
 use Rattle.ddf_bay.specs.Sectors.{Image, IsLeft}
@@ -27,9 +28,6 @@ use Rattle.ddf_history_steps.specs.Kept.{AreAllKept, SaysOne}
 use Rattle.ddf_history_steps.proofs.Stops.{same_scene}
 use Rattle.ddf_history_steps.specs.BlockFloors.{HasFloor, HaveFloors, StaySettled, WritesBelow}
 use Rattle.ddf_history_steps.proofs.Above.{AreSameFrom, anchor_same, copy_same, newest_at_same, newest_of_same}
-
-same_ok : {A B : Type 0} {one other : A} → ◌≡◌ {A = Result A B} (Ok one) (Ok other) → one ≡ other
-same_ok e = cc
 
 module _ {D : Type 0} (floor : ℕ → ℕ) (old new : BayState D) (floors : HaveFloors old floor) (below : WritesBelow floor old new) where
   -- What a stop left while sectors below the floors were written.
@@ -127,7 +125,7 @@ module _ {D : Type 0} (floor : ℕ → ℕ) (old new : BayState D) (floors : Hav
     newest_still slot anchor is = elim (floors slot) [
       | inl none ↦ ap (λ (sector : ℕ → List ℕ). newest_of (size_of old slot) sector anchor) (sym (none_written slot none))
       | inr has ↦
-          let own : has.anchor ≡ anchor = same_ok (sym has.is_anchored ∙ is) in
+          let own : has.anchor ≡ anchor = ok_is (sym has.is_anchored ∙ is) in
           newest_of_same (floor slot) (old.held slot) (new.held slot) (same_from slot has) (size_of old slot) anchor
           (subst (λ (one : Header). floor slot ≤ one.primary_lba) own has.primary) (subst (λ (one : Header). floor slot ≤ one.secondary_lba) own has.secondary)
     ]
@@ -150,7 +148,7 @@ module _ {D : Type 0} (floor : ℕ → ℕ) (old new : BayState D) (floors : Hav
       | inr has ↦ record {
         one_view = λ anchor primary secondary at first second level.
             let is = anchor_still slot ∙ at in
-            let own : has.anchor ≡ anchor = same_ok (sym has.is_anchored ∙ is) in
+            let own : has.anchor ≡ anchor = ok_is (sym has.is_anchored ∙ is) in
             let le = subst (λ (one : Header). floor slot ≤ one.primary_lba) own has.primary in
             let other_le = subst (λ (one : Header). floor slot ≤ one.secondary_lba) own has.secondary in
             says.one_view anchor primary secondary is

@@ -1,10 +1,8 @@
 -- What a change writes may be written, and leaves each slot showing what it should.
-use Rattle.std.proofs.Common.{◌≡◌, ◌⊎◌, ℕ, ◌<◌, Bool, true, false, List, length}
+use Rattle.std.proofs.Common.{◌≡◌, ◌⊎◌, ℕ, Bool, true, false, List, length}
 use Rattle.ddf_config.specs.Configuration.{Configuration}
 use Rattle.ddf_copy.specs.declared.copy.DiskCopy.{DiskCopy}
 use Rattle.ddf_copy.specs.Written.{CanBeCopy}
-use Rattle.ddf_plan.specs.declared.change.Change.{Change}
-use Rattle.ddf_plan.specs.Changes.{changed_at}
 use Rattle.ddf_view.specs.View.{View, view_of}
 use Rattle.ddf_rewrite.specs.Before.{Before}
 use Rattle.ddf_rewrite.specs.Changing.{CanChange}
@@ -15,16 +13,10 @@ use Rattle.ddf_history.specs.Groups.{groups, disk_of, has_current}
 use Rattle.ddf_history.specs.Issued.{Past, is_away, issue, acknowledge}
 use Rattle.ddf_history.specs.Promise.{IsKept}
 use Rattle.ddf_history.specs.Steps.{DoRemain, IsLast, MayFollow, MayWrite, AreWritten, JoinLast, GivesAfter, AllShow, OthersLast}
-use Rattle.ddf_history.proofs.Following.{changes_follow}
 use Rattle.ddf_history.proofs.Sound.{groups_are_sound}
 use Rattle.ddf_history_steps.proofs.TheoryLast.{last_acknowledged, last_next}
 use Rattle.ddf_history_steps.proofs.TheoryChange.{AreNew, next_acknowledged, next_gives, next_issued, next_joins_last, next_kept, next_may_write, next_shown, next_turned_last}
 use Rattle.ddf_history_steps.proofs.ChangingCopies.{changed_are_new, changed_views, old_are_ours}
-
--- A change may follow the last configuration.
-pub follows : (group : List ℕ) (last : Configuration) (change : Change) (sequence : ℕ) → last.sequence < sequence
-    → MayFollow (groups group) last (changed_at last change sequence)
-follows group last change sequence rises = changes_follow group last change sequence rises
 
 module _ (group : List ℕ) (past : Past (groups group)) (scene : Scene View) (kept : IsKept past scene) (n : ℕ) (last next : Configuration)
     (at_last : IsLast past.changes n last) (follow : MayFollow (groups group) last next)

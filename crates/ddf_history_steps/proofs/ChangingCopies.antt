@@ -1,11 +1,11 @@
 -- The new copies of a change, as histories ask them.
 use Rattle.std.proofs.Common.{◌≡◌, ℕ, Bool, true, List, sym, ap, ◌∙◌, inr}
 use Rattle.std.specs.Str.{bytes_eq}
+use Rattle.ddf_lemmas.proofs.Lists.{bytes_same}
 use Rattle.ddf_config.specs.Configuration.{Configuration}
 use Rattle.ddf_copy.specs.declared.copy.DiskCopy.{DiskCopy}
 use Rattle.ddf_copy.specs.Written.{CanBeCopy}
 use Rattle.ddf_view.specs.View.{View, view_of}
-use Rattle.ddf_view.proofs.Tests.{bytes_same}
 use Rattle.ddf_rewrite.specs.Before.{Before}
 use Rattle.ddf_rewrite.specs.Changing.{CanChange}
 use Rattle.ddf_rewrite.specs.Copies.{changed_copy}

@@ -17,9 +17,10 @@ use Rattle.ddf_history.specs.Promise.{IsKept}
 use Rattle.ddf_history.specs.Calls.{IsAssembled, AreSure}
 use Rattle.ddf_history.specs.Steps.{AllShow, AreWritten, DoRemain, IsLast, JoinLast, MayFollow, MayWrite, OthersLast}
 use Rattle.ddf_history.proofs.Sound.{groups_are_sound}
+use Rattle.ddf_history.proofs.Following.{changes_follow}
 use Rattle.ddf_history_steps.proofs.TheoryLast.{issued_count}
 use Rattle.ddf_history_steps.proofs.TheoryLoss.{left_from, left_kept, left_last}
-use Rattle.ddf_history_steps.proofs.Changing.{acknowledged_last, change_acknowledged, change_kept, change_last, change_may_write, change_shown, change_turned_last, follows, issued_kept}
+use Rattle.ddf_history_steps.proofs.Changing.{acknowledged_last, change_acknowledged, change_kept, change_last, change_may_write, change_shown, change_turned_last, issued_kept}
 use Rattle.ddf_history_steps.proofs.ChangingCopies.{changed_views}
 
 -- the configuration with the absent members lost
@@ -54,7 +55,7 @@ module _ (group : List ℕ) (past : Past (groups group)) (held scene : Scene Vie
 
       -- It may follow.
       loss_follows : MayFollow (groups group) config loss
-      loss_follows = follows group config (Lose absent) sequence rises
+      loss_follows = changes_follow group config (Lose absent) sequence rises
 
       -- It may be issued.
       pub loss_issued : IsKept (issue begun loss) scene

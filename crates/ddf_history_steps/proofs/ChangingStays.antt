@@ -14,7 +14,7 @@ use Rattle.ddf_history.specs.Groups.{Disk, has_current}
 use Rattle.ddf_steps.proofs.MembersAfter.{are_after}
 
 -- Numbers that differ one way do so the other.
-turned : (one other : ℕ) (test : Bool) → nat_eq other one ≡ test → eqb one other ≡ false → nat_eq other one ≡ false
+pub turned : (one other : ℕ) (test : Bool) → nat_eq other one ≡ test → eqb one other ≡ false → nat_eq other one ≡ false
 turned one other true same differ = absurd (true≢false (sym (eq-eqb one other (sym (eqb-true other one same))) ∙ differ))
 turned one other false same differ = same
 

@@ -6,6 +6,10 @@ use Rattle.std.specs.List.{list_any}
 use Rattle.std.specs.Option.{option_and_then, option_map_or}
 use Rattle.std.specs.Map.{lookup}
 use Rattle.std.specs.Str.{bytes_eq}
+use Rattle.std.proofs.lemmas.Map.Keys.{any_passes_from_place}
+use Rattle.std.proofs.lemmas.Option.{same_Some}
+use Rattle.ddf_lemmas.proofs.Lists.{filtered_passes, mapped_at}
+use Rattle.ddf_lemmas.proofs.Options.{value_there}
 use Rattle.ddf_bay.specs.State.{BayState}
 use Rattle.ddf_config.specs.declared.member.Member.{Member}
 use Rattle.ddf_config.specs.declared.seat.Seat.{Seat}
@@ -31,8 +35,7 @@ use Rattle.ddf_history.proofs.AnsweredLists.{map_some}
 use Rattle.ddf_history.proofs.AnsweredSlots.{claimed_by, claimed_claims, copy_within, first_is_view}
 use Rattle.ddf_history.proofs.Assembling.{read_as}
 use Rattle.ddf_history.proofs.Calls.{seen_copy, seen_read}
-use Rattle.ddf_history.proofs.Listed.{value_there}
-use Rattle.ddf_history.proofs.Since.{first_is_copy, on_shows, same_number, some_is, which}
+use Rattle.ddf_history.proofs.Since.{first_is_copy, on_shows, same_number, which}
 use Rattle.ddf_history.proofs.Sound.{groups_are_sound}
 use Rattle.ddf_seats.specs.declared.seated.Seated.{Seated}
 use Rattle.ddf_steps.specs.Committed.{slots_of}
@@ -41,14 +44,13 @@ use Rattle.ddf_assembly.specs.Group.{group_as, group_of}
 use Rattle.ddf_seats.specs.Seated.{seated}
 use Rattle.ddf_assembly.specs.Slots.{newest_from}
 use Rattle.ddf_seats.proofs.CommittedSeats.{seated_is}
-use Rattle.ddf_assembly.proofs.LeftBefore.{kept_at}
 use Rattle.ddf_rewrite.proofs.AllWanted.{filter_map_get}
-use Rattle.ddf_rewrite.proofs.Lists.{get_map, get_range}
+use Rattle.ddf_rewrite.proofs.Lists.{get_range}
 use Rattle.ddf_history_steps.specs.AtEnd.{IsMember}
 use Rattle.ddf_history_steps.specs.Kept.{is_read, is_slot}
 use Rattle.ddf_history_steps.proofs.Begun.{IsMadeOf, assembled_kept, assembled_since, found_named}
 use Rattle.ddf_history_steps.proofs.Told.{one_group, scene_is}
-use Rattle.ddf_history_steps.proofs.Filtered.{any_kept, passes_kept}
+use Rattle.ddf_history_steps.proofs.Filtered.{any_kept}
 use Rattle.ddf_history_steps.proofs.Seats.{absent_are, claims_seat, copy_there, seat_claims, view_at}
 use Rattle.ddf_history_steps.proofs.Slots.{slot_is}
 
@@ -101,12 +103,6 @@ listed_among (one ∷ references) zero reference at =
     or_left (nat_eq reference one) (list_any (nat_eq reference) references) (eq-eqb reference one (sym same))
 listed_among (one ∷ references) (suc place) reference at =
     or_right (nat_eq reference one) (list_any (nat_eq reference) references) (listed_among references place reference at)
-
--- Where an item passes a test, some does.
-pub any_there : {X : Type 0} (test : X → Bool) (xs : List X) (place : ℕ) (x : X) → slice_get xs place ≡ Some x → test x ≡ true → list_any test xs ≡ true
-any_there test [] place x at is = absurd cc
-any_there test (first ∷ xs) zero x at is = let same : first ≡ x = cc in or_left (test first) (list_any test xs) (ap test same ∙ is)
-any_there test (first ∷ xs) (suc place) x at is = or_right (test first) (list_any test xs) (any_there test xs place x at is)
 
 -- No seat has a reference that is absent.
 pub absent_none : (slots : List GroupShown) (seats : List ℕ) (reference : ℕ) (members : List (ℕ × Member)) → is_among (absent slots seats members) reference ≡ true
@@ -171,7 +167,7 @@ module _ (group : List ℕ) {D : Type 0} (state : BayState D) (left : List Bool)
   seats_claimed place seat copy there has =
       let found = claims_told seat.slot (seat_claims newest group g made place seat there) in
       let both : Some found.0 ≡ Some (view_of copy) = sym found.1 ∙ view_at newest seat.slot ∙ ap (option_map view_of) has in
-      subst (IsClaimed (groups group) scene seat.slot) (some_is found.0 (view_of copy) both) found.2
+      subst (IsClaimed (groups group) scene seat.slot) (same_Some found.0 (view_of copy) both) found.2
 
   -- Each seat has such a copy.
   pub seat_has : (place : ℕ) (seat : Seat) → slice_get g.seats place ≡ Some seat → (copy : DiskCopy) × (copy_at newest seat.slot ≡ Some copy)
@@ -215,7 +211,7 @@ module _ (group : List ℕ) {D : Type 0} (state : BayState D) (left : List Bool)
     disk_reference =
         let own_seat = seated_is g place disk there in
         let seat = seat_is own_seat.place disk.seat own_seat.is_seat in
-        let same : seat.0 ≡ disk.copy = some_is seat.0 disk.copy (sym seat.1 ∙ copy_read) in
+        let same : seat.0 ≡ disk.copy = same_Some seat.0 disk.copy (sym seat.1 ∙ copy_read) in
         ap (λ (copy : DiskCopy). copy.disk_data.reference) (sym same) ∙ ap (λ (one : Seat). one.reference) seat.2
 
   -- A claimed slot is that of a seat.
@@ -233,12 +229,12 @@ module _ (group : List ℕ) {D : Type 0} (state : BayState D) (left : List Bool)
       let found = subst (λ (one : Scene View). IsClaimed (groups group) one slot view) (sym same_scene) is_claimed in
       let below = copy_within slots slot view (first_is_copy (scene_in slots slot) view found.is_first) in
       let number : slice_get (numbers slots) slot ≡ Some slot = (let at = get_range 0 (length slots) slot below in at.2 ∙ ap Some (at.1 ∙ zero-add slot)) in
-      let kept_there = passes_kept (claims slots group) (numbers slots) slot slot number (claimed_claims group slots alike slot view found) in
+      let kept_there = filtered_passes (claims slots group) (numbers slots) slot slot number (claimed_claims group slots alike slot view found) in
       let has : has_reference slots view.reference slot ≡ true =
       ap (λ (one : Option View). option_map_or (λ (reference : ℕ). eqb reference view.reference) (option_map (λ (shown : View). shown.reference) one) false)
       (first_is_view (slot_at slots slot) view found.is_first)
       ∙ eq-eqb view.reference view.reference refl in
-      let any = any_there (has_reference slots view.reference) (filter (claims slots group) (numbers slots)) kept_there.0 slot kept_there.1 has in
+      let any = any_passes_from_place (has_reference slots view.reference) (filter (claims slots group) (numbers slots)) kept_there.0 slot kept_there.1 has in
       elim (which (is_among g.absent view.reference)) [
         | inr free ↦ free
         | inl among ↦
@@ -309,8 +305,8 @@ module _ (group : List ℕ) {D : Type 0} (state : BayState D) (left : List Bool)
         by false none =
             let here = (and_parts (bytes_eq entry.0.guid disk.guid) (not entry.0.missing) entry.2).1 in
             let passes : is_absent slots claimed_slots (at_place.1, entry.0) ≡ true = rw (here, none) refl in
-            let there = kept_at (is_absent slots claimed_slots) g.config.members at_place.0 (at_place.1, entry.0) at_place.2 passes in
-            let listed = get_map (λ (one : ℕ × Member). one.0) (filter (is_absent slots claimed_slots) g.config.members) there.0 (at_place.1, entry.0) there.1 in
+            let there = filtered_passes (is_absent slots claimed_slots) g.config.members at_place.0 (at_place.1, entry.0) at_place.2 passes in
+            let listed = mapped_at (λ (one : ℕ × Member). one.0) (filter (is_absent slots claimed_slots) g.config.members) there.0 (at_place.1, entry.0) there.1 in
             let among = listed_among (absent slots claimed_slots g.config.members) there.0 at_place.1 listed in
             inr (subst (λ (reference : ℕ). is_among g.absent reference ≡ true) key_is
             (subst (λ (all : List ℕ). is_among all at_place.1 ≡ true) (sym (absent_are newest group g made)) among))
@@ -349,15 +345,3 @@ module _ (group : List ℕ) {D : Type 0} (state : BayState D) (left : List Bool)
   current_seated none slot current =
       let found = none_absent none (past.disk slot) current in
       subst (λ (s : ℕ). is_slot (slots_of g.seats) s ≡ true) (sym (same_slot slot current found.0 found.1 found.2 found.3)) (claimed_seated found.0 found.1 found.2)
-
--- ---- numbers
-
--- Numbers are equal either way.
-pub either_way : (one other : ℕ) → nat_eq one other ≡ eqb other one
-either_way one other = go (nat_eq one other) refl (eqb other one) refl
-  where
-    go : (here : Bool) → nat_eq one other ≡ here → (there : Bool) → eqb other one ≡ there → nat_eq one other ≡ eqb other one
-    go true h true t = h ∙ sym t
-    go false h false t = h ∙ sym t
-    go true h false t = absurd (false≢true (sym t ∙ eq-eqb other one (sym (eqb-true one other h))))
-    go false h true t = absurd (false≢true (sym h ∙ eq-eqb one other (sym (eqb-true other one t))))

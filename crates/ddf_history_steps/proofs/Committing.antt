@@ -2,6 +2,7 @@
 -- group stands at the end again.
 use Rattle.std.proofs.Common.{◌≡◌, ℕ, ◌<◌, ◌^◌, true, List, ◌∷◌, length, Option, Some, None, refl, ap, sym, ◌∙◌, inl, subst}
 use Rattle.std.specs.Prelude.{slice_get}
+use Rattle.ddf_lemmas.proofs.Lists.{in_map}
 use Rattle.ddf_bay.specs.Sectors.{Image, IsLeft}
 use Rattle.ddf_bay.specs.State.{BayState}
 use Rattle.ddf_config.specs.Configuration.{Configuration}
@@ -12,7 +13,6 @@ use Rattle.ddf_update.specs.Changes.{AreChanged, IsLeftChangingAll, MayChangeAll
 use Rattle.ddf_update.specs.Group.{LieOnSlots}
 use Rattle.ddf_view.specs.View.{View, view_of}
 use Rattle.ddf_rewrite.specs.Before.{Before, before}
-use Rattle.ddf_rewrite.proofs.Lists.{map_get}
 use Rattle.ddf_history.specs.Groups.{groups}
 use Rattle.ddf_history.specs.Issued.{Past, acknowledge, issue}
 use Rattle.ddf_history.specs.Promise.{IsKept}
@@ -30,14 +30,16 @@ use Rattle.ddf_steps.specs.Steps.{Step, config_after, in_order, step_of}
 use Rattle.ddf_seats.specs.Changing.{SlotsRise}
 use Rattle.ddf_recovery.proofs.Committed.{next_lies}
 use Rattle.ddf_recovery.proofs.CommittedAfter.{after_is, committed_anchored, committed_holds, left_ready}
+use Rattle.ddf_history.proofs.Following.{changes_follow}
 use Rattle.ddf_history_steps.specs.Kept.{is_slot}
 use Rattle.ddf_history_steps.specs.AtEnd.{IsAtEnd, IsMember}
-use Rattle.ddf_history_steps.proofs.Changing.{acknowledged_last, follows}
+use Rattle.ddf_history_steps.proofs.Changing.{acknowledged_last}
 use Rattle.ddf_history_steps.proofs.ChangingCopies.{changed_views}
 use Rattle.ddf_history_steps.proofs.CommittingScenes.{all_say, changed_written, written_shows}
 use Rattle.ddf_history_steps.proofs.CommittingSeats.{copy_in, written_at}
-use Rattle.ddf_history_steps.proofs.CommittingStep.{all_written, in_place, new_at, new_member, slots_seated, step_acknowledged, step_issued, step_kept}
+use Rattle.ddf_history_steps.proofs.CommittingStep.{all_written, in_place, new_at, new_member, step_acknowledged, step_issued, step_kept}
 use Rattle.ddf_history_steps.proofs.Stops.{changed_left, stop_writes, unwritten_left}
+use Rattle.ddf_history_steps.proofs.RecoveringLossEnd.{slots_same}
 
 -- a step with its updates, and what is left with it
 abbrev ReadyWith : Option ReadyStep → Step → List Prepared → List ReadyStep → ReadyValue
@@ -122,7 +124,7 @@ module _ (group : List ℕ) {D : Type 0} (past : Past (groups group)) (disks : B
       members place disk at =
           let rise = subst SlotsRise (sym end.is_settled.are_seated) end.is_settled.slots_rise in
           let after = after_is found (record { step = step; updates = updates }) rise is_ready.follows.0 is_ready.rewrites.0 in
-          let made = map_get levelled step.disks place disk (sym (ap (λ (all : List Seated). slice_get all place) after) ∙ at) in
+          let made = in_map levelled step.disks place disk (sym (ap (λ (all : List Seated). slice_get all place) after) ∙ at) in
           let is = new_member group past disks found end timestamp time change asked not_refused is_change rises place made.0 made.1 in
           subst (IsMember next) made.2 (record { same_reference = is.same_reference; is_current = is.is_current })
 
@@ -131,7 +133,7 @@ module _ (group : List ℕ) {D : Type 0} (past : Past (groups group)) (disks : B
       done left = record {
         all_kept = all_kept;
         is_last = acknowledged_last group past (scene_of disks.sizes disks.held) (end.all_kept disks.held end.is_left) past.changes.acked found.config next
-            end.is_last (follows group found.config change next.sequence rises) (inl refl);
+            end.is_last (changes_follow group found.config change next.sequence rises) (inl refl);
         is_settled = (left_ready found ready is_ready).is_settled;
         holds = committed_holds disks now same_sizes found ready end.holds is_ready may
             (subst (λ (all : List Seated). AreChanged disks now (slots_in all) may.seat updates (length (slots_in all))) (sym place_is) changed);
@@ -140,7 +142,7 @@ module _ (group : List ℕ) {D : Type 0} (past : Past (groups group)) (disks : B
         same_slots = end.same_slots ∙ ap length (sym same_sizes);
         same_group = end.same_group;
         are_seated = λ slot here current.
-            ap (λ (all : List ℕ). is_slot all slot) (slots_seated step.disks)
+            ap (λ (all : List ℕ). is_slot all slot) (slots_same step.disks)
             ∙ all_written group past disks found end timestamp time change asked not_refused is_change rises slot here current;
         are_members = members;
         says_one = all_say disks now slots may.seat updates lies.are_slots lies.counted same_sizes changed now.held left new news end.says_one;

@@ -1,7 +1,7 @@
 -- The step of one change that was readied behind a group's recovery.
-use Rattle.std.proofs.Common.{◌≡◌, ℕ, Bool, true, false, ◌||◌, List, [], ◌∷◌, map, Option, Some, None, Result, Ok, Err, if◌then◌else◌, refl, ap, sym, ◌∙◌, subst}
-use Rattle.std.proofs.lemmas.Bool.{false≢true}
+use Rattle.std.proofs.Common.{◌≡◌, ℕ, Bool, true, false, List, [], ◌∷◌, Option, Some, None, Result, Ok, Err, if◌then◌else◌, refl, ap, sym, ◌∙◌, subst}
 use Rattle.std.specs.List.{list_any}
+use Rattle.ddf_lemmas.proofs.Tests.{or_first}
 use Rattle.ddf_config.specs.declared.refusal.Refusal.{Refusal}
 use Rattle.ddf_config.specs.Configuration.{Configuration}
 use Rattle.ddf_plan.specs.declared.change.Change.{Change}
@@ -18,6 +18,7 @@ use Rattle.ddf_steps.specs.Steps.{Step, step_of}
 use Rattle.ddf_recovery.proofs.CommittedReadied.{NoneSpent}
 use Rattle.ddf_recovery.proofs.ReadiedParts.{are_tried, none_spent}
 use Rattle.ddf_recovery.proofs.RecoveredGroup.{is_recovered}
+use Rattle.ddf_history_steps.proofs.StepsAsked.{steps_in}
 
 -- The only step of what was readied is that of the change, which nothing refuses.
 pub record IsFirstStep (timestamp : ℕ) (group : GroupValue) (change : Change) (one : ReadyStep) (others : List ReadyStep) : Type 0 where
@@ -29,10 +30,6 @@ pub record IsFirstStep (timestamp : ℕ) (group : GroupValue) (change : Change) 
 
 -- ---- steps
 
--- the steps of what is ready
-abbrev steps_in : List ReadyStep → List Step
-steps_in steps = map (λ (one : ReadyStep). one.step) steps
-
 -- Where none is left there is none.
 none_in : (steps : List ReadyStep) → ◌≡◌ {A = Result (List Step) Refusal} (Ok []) (Ok (steps_in steps)) → steps ≡ []
 none_in [] is = refl
@@ -43,11 +40,6 @@ goes_on : (refusal : Option Refusal) (rest : Result (List Step) Refusal) (steps 
     → ◌≡◌ {A = Result (List Step) Refusal} (elim refusal [ Some one ↦ Err one | None ↦ rest ]) (Ok steps) → (refusal ≡ None) × (rest ≡ Ok steps)
 goes_on None rest steps is = (refl, is)
 goes_on (Some one) rest steps is = absurd cc
-
--- The first test of those of which none passes fails.
-first_fails : (one others : Bool) → (one || others) ≡ false → one ≡ false
-first_fails true others is = absurd (false≢true (sym is))
-first_fails false others is = refl
 
 module _ (timestamp : ℕ) (change : Change) where
   -- what one change gives, where it is a step or not
@@ -71,7 +63,7 @@ module _ (timestamp : ℕ) (change : Change) where
           not_refused = (parts group.config (seated group) (one ∷ others) tried).0;
           is_change = step;
           step_is = cc;
-          not_spent = first_fails (is_spent one.step) (list_any is_spent (steps_in others)) spent;
+          not_spent = or_first (is_spent one.step) (list_any is_spent (steps_in others)) spent;
         }
         go false step is = absurd cc
 

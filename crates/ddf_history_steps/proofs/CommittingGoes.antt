@@ -97,7 +97,7 @@ module _ (group : List ℕ) where
 -- ---- the changes of a call
 
 -- Steps issue what each of them does.
-changes_of_both : (found : GroupValue) (steps others : List Step) → changes_in found (steps ++ others) ≡ changes_in found steps ++ changes_in found others
+pub changes_of_both : (found : GroupValue) (steps others : List Step) → changes_in found (steps ++ others) ≡ changes_in found steps ++ changes_in found others
 changes_of_both found steps others =
     let raises = λ (step : Step). not (step.config.sequence == found.config.sequence) in
     ap (map (λ (step : Step). step.config)) (filter-append raises steps others)

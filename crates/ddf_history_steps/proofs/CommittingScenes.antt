@@ -4,15 +4,12 @@ use Rattle.std.proofs.Math.Path.{fun_ext}
 use Rattle.std.specs.Prelude.{slice_get, slice_index}
 use Rattle.ddf_bay.specs.Sectors.{Image}
 use Rattle.ddf_bay.specs.State.{BayState, size_of}
-use Rattle.ddf_copy.specs.declared.copy.DiskCopy.{DiskCopy}
-use Rattle.ddf_copy.specs.declared.newest_copy.Newest.{Newest}
 use Rattle.ddf_copy.specs.declared.newest_copy.Newest.TheVariants as newests
 use Rattle.ddf_copy.specs.Copies.{newest_of}
 use Rattle.ddf_update.specs.declared.prepared.Prepared.{Prepared}
 use Rattle.ddf_update.specs.Changes.{AreChanged, SlotChange}
 use Rattle.ddf_update.specs.Group.{AreSlots}
 use Rattle.ddf_view.specs.View.{View, view_of}
-use Rattle.ddf_group.specs.Shown.{shown_of}
 use Rattle.ddf_history.specs.Reading.Shown.{One}
 use Rattle.ddf_history.specs.Scenes.{scene_of}
 use Rattle.ddf_history.specs.Steps.{AreWritten}
@@ -25,16 +22,11 @@ use Rattle.ddf_assembly.specs.Reading.{HaveAnchors}
 use Rattle.ddf_seats.specs.Seated.{seated}
 use Rattle.ddf_assembly.specs.Settled.{IsLevelIn, IsSettledGroup}
 use Rattle.ddf_history_steps.specs.Kept.{SaysOne, is_slot, unwritten}
-use Rattle.ddf_history_steps.proofs.ShownCopies.{shows_newest, told}
+use Rattle.ddf_history_steps.proofs.ShownCopies.{shows_newest, level_told}
 use Rattle.ddf_history_steps.proofs.Slots.{not_placed, slot_placed}
 use Rattle.ddf_history_steps.proofs.Stops.{changed_says, changed_shows, same_scene, scene_at, unwritten_else}
 
 -- ---- before
-
--- Level copies are told as one.
-level_told : (newest : Newest) (copy : DiskCopy) → newest ≡ newests.Level copy → told newest ≡ One (view_of copy)
-unfolding shown_of
-level_told newest copy is = ap told is
 
 -- The slot of a settled group's disk shows its copy, where it holds what the disks do.
 pub seat_shows : {D : Type 0} (state : BayState D) (found : GroupValue) → IsSettledGroup found → HoldsGroup state found → HaveAnchors state.sizes found.newest

@@ -1,9 +1,9 @@
 -- The disks of a settled group that a change writes: their copies, and that each can have its new one.
-use Rattle.std.proofs.Common.{◌≡◌, ℕ, ◌<◌, ◌^◌, true, List, [], map, Option, Some, None, refl, ap, ◌∙◌}
+use Rattle.std.proofs.Common.{◌≡◌, ℕ, ◌<◌, ◌^◌, true, List, map, Option, Some, None, refl, ap, ◌∙◌}
 use Rattle.std.specs.Prelude.{filter, slice_get, unwrap_or}
 use Rattle.std.specs.List.{AllByRecursion}
+use Rattle.ddf_lemmas.proofs.Lists.{filter_get, filter_pass, filtered_passes, in_map, mapped_at}
 use Rattle.ddf_config.specs.Configuration.{Configuration}
-use Rattle.ddf_header.specs.declared.kind.Revision.TheVariants.{R200}
 use Rattle.ddf_copy.specs.declared.copy.DiskCopy.{DiskCopy}
 use Rattle.ddf_copy.specs.declared.newest_copy.Newest.{Newest}
 use Rattle.ddf_copy.specs.Written.{CanBeCopy}
@@ -12,10 +12,8 @@ use Rattle.ddf_plan.specs.Same.{is_step}
 use Rattle.ddf_rewrite.specs.Before.{Before, before}
 use Rattle.ddf_rewrite.specs.Changing.{CanChange}
 use Rattle.ddf_rewrite.specs.Copies.{changed_copy}
-use Rattle.ddf_rewrite.proofs.Lists.{all_at, get_map, map_get}
+use Rattle.ddf_rewrite.proofs.Lists.{all_at}
 use Rattle.ddf_rewrite.proofs.Roomy.{change_can, roomy_change_can}
-use Rattle.ddf_update.specs.declared.new_layout.NewLayout.TheVariants.{Small}
-use Rattle.ddf_update.specs.NewCopies.{new_copy}
 use Rattle.ddf_seats.specs.declared.seated.Seated.{Seated}
 use Rattle.ddf_steps.specs.Asked.{CanBeAsked}
 use Rattle.ddf_steps.specs.Full.{full_where_written}
@@ -27,19 +25,14 @@ use Rattle.ddf_steps.specs.Steps.{config_after, disks_after, rewritten, stays_in
 use Rattle.ddf_seats.specs.Changing.{AreCopies, CanBeHeldOn}
 use Rattle.ddf_steps.specs.Trying.{CanTry}
 use Rattle.ddf_steps.proofs.Following.{copies_are, next_held, room_for}
-use Rattle.ddf_assembly.proofs.LeftBefore.{all_pass, kept_at}
-use Rattle.ddf_recovery.proofs.LeftStep.{from_kept}
 use Rattle.ddf_steps.proofs.OneLength.{HasRoom, can_try_all, led_by_all, room_on}
 use Rattle.ddf_steps.proofs.Rewritten.{capacities}
 use Rattle.ddf_steps.proofs.StepConfig.{has_room, no_cause}
+use Rattle.ddf_recovery.proofs.Committed.{no_copy}
 use Rattle.ddf_history_steps.specs.Kept.{is_slot}
 use Rattle.ddf_history_steps.proofs.Slots.{slot_is, slot_placed}
 
 -- ---- the copy of a slot
-
--- a copy for slots that have none
-no_copy : DiskCopy
-no_copy = new_copy Small R200 (record { seconds = 0; salt = 0 }) [] 0
 
 -- the copy that stands for a slot
 pub copy_in : List (Option Newest) → ℕ → DiskCopy
@@ -72,13 +65,13 @@ pub renewed : (disks : List Seated) (leaders : Before) (next : Configuration) (t
     → slice_get (disks_after timestamp leaders next disks) place ≡ Some made → IsRenewed disks leaders next timestamp made
 unfolding disks_after
 renewed disks leaders next timestamp place made at =
-    let own = map_get (rewritten leaders next timestamp) (filter (stays_in next) disks) place made at in
-    let here = from_kept (stays_in next) disks place own.0 own.1 in
+    let own = in_map (rewritten leaders next timestamp) (filter (stays_in next) disks) place made at in
+    let here = filter_get (stays_in next) disks place own.0 own.1 in
     record {
       place = here.0;
       disk = own.0;
       at = here.1;
-      stays = all_at (λ (one : Seated). stays_in next one ≡ true) (filter (stays_in next) disks) place own.0 (all_pass (stays_in next) disks) own.1;
+      stays = all_at (λ (one : Seated). stays_in next one ≡ true) (filter (stays_in next) disks) place own.0 (filter_pass (stays_in next) disks) own.1;
       is_made = own.2;
     }
 
@@ -91,7 +84,7 @@ pub record IsWritten (disks : List Seated) (leaders : Before) (next : Configurat
 pub written_at : (disks : List Seated) (leaders : Before) (next : Configuration) (timestamp place slot : ℕ)
     → slice_get (slots_in (disks_after timestamp leaders next disks)) place ≡ Some slot
     → (made : Seated) × (slice_get (disks_after timestamp leaders next disks) place ≡ Some made) × (made.seat.slot ≡ slot)
-written_at disks leaders next timestamp place slot at = map_get (λ (disk : Seated). disk.seat.slot) (disks_after timestamp leaders next disks) place slot at
+written_at disks leaders next timestamp place slot at = in_map (λ (disk : Seated). disk.seat.slot) (disks_after timestamp leaders next disks) place slot at
 
 pub is_written : (disks : List Seated) (leaders : Before) (next : Configuration) (timestamp slot : ℕ)
     → is_slot (slots_in (disks_after timestamp leaders next disks)) slot ≡ true → IsWritten disks leaders next timestamp slot
@@ -106,10 +99,10 @@ pub stays_written : (disks : List Seated) (leaders : Before) (next : Configurati
     → stays_in next disk ≡ true → is_slot (slots_in (disks_after timestamp leaders next disks)) disk.seat.slot ≡ true
 unfolding disks_after
 stays_written disks leaders next timestamp place disk at stays =
-    let kept = kept_at (stays_in next) disks place disk at stays in
+    let kept = filtered_passes (stays_in next) disks place disk at stays in
     let all = map (rewritten leaders next timestamp) (filter (stays_in next) disks) in
-    let made = get_map (rewritten leaders next timestamp) (filter (stays_in next) disks) kept.0 disk kept.1 in
-    slot_is (slots_in all) kept.0 disk.seat.slot (get_map (λ (one : Seated). one.seat.slot) all kept.0 (rewritten leaders next timestamp disk) made)
+    let made = mapped_at (rewritten leaders next timestamp) (filter (stays_in next) disks) kept.0 disk kept.1 in
+    slot_is (slots_in all) kept.0 disk.seat.slot (mapped_at (λ (one : Seated). one.seat.slot) all kept.0 (rewritten leaders next timestamp disk) made)
 
 -- ---- what the disks can have
 

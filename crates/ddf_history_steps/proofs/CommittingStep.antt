@@ -1,13 +1,10 @@
 -- A change of a group that stands at the end of its history: whatever a stop leaves shows what it should, and behind it the change is acknowledged.
-use Rattle.std.proofs.Common.{◌≡◌, ℕ, ◌<◌, ◌^◌, Bool, true, false, not, ◌&&◌, nat_eq, eqb, List, [], ◌∷◌, length, Some, None, refl, ap, sym, ◌∙◌, inl, inr, subst, if◌then◌else◌}
-use Rattle.std.proofs.lemmas.Bool.{and_parts}
-use Rattle.std.proofs.Math.Path.{fun_ext}
+use Rattle.std.proofs.Common.{◌≡◌, ℕ, ◌<◌, ◌^◌, Bool, true, false, List, length, Some, None, refl, ap, sym, ◌∙◌, inl, inr, subst, if◌then◌else◌}
 use Rattle.std.specs.Prelude.{slice_get}
-use Rattle.std.specs.Map.{lookup}
 use Rattle.std.specs.Str.{bytes_eq}
+use Rattle.ddf_lemmas.proofs.Lists.{bytes_same, in_map}
 use Rattle.ddf_bay.specs.Sectors.{Image, IsLeft}
 use Rattle.ddf_bay.specs.State.{BayState}
-use Rattle.ddf_config.specs.declared.member.Member.{Member}
 use Rattle.ddf_config.specs.Configuration.{Configuration}
 use Rattle.ddf_config.specs.Members.{is_current}
 use Rattle.ddf_copy.specs.declared.copy.DiskCopy.{DiskCopy}
@@ -17,55 +14,41 @@ use Rattle.ddf_plan.specs.Same.{is_step}
 use Rattle.ddf_update.specs.declared.prepared.Mode.TheVariants as modes
 use Rattle.ddf_update.specs.Prepared.{writes_anchor}
 use Rattle.ddf_view.specs.View.{View, view_of}
-use Rattle.ddf_view.proofs.Tests.{bytes_same}
 use Rattle.ddf_rewrite.specs.Before.{Before, before}
 use Rattle.ddf_rewrite.specs.Changing.{CanChange}
 use Rattle.ddf_rewrite.specs.Copies.{changed_copy}
-use Rattle.ddf_rewrite.proofs.Lists.{all_at, map_get}
+use Rattle.ddf_rewrite.proofs.Lists.{all_at}
 use Rattle.ddf_history.specs.Reading.{Scene, IsCopyOf}
 use Rattle.ddf_history.specs.Reading.Shown.{One}
-use Rattle.ddf_history.specs.Groups.{Disk, groups, disk_of, has_current}
+use Rattle.ddf_history.specs.Groups.{groups, disk_of, has_current}
 use Rattle.ddf_history.specs.Issued.{Past, acknowledge, is_away, issue}
 use Rattle.ddf_history.specs.Promise.{IsKept}
 use Rattle.ddf_history.specs.Scenes.{scene_of}
 use Rattle.ddf_history.specs.Steps.{AreWritten, JoinLast, MayFollow}
-use Rattle.ddf_history.proofs.Listed.{value_there}
 use Rattle.ddf_seats.specs.declared.seated.Seated.{Seated}
 use Rattle.ddf_steps.specs.Asked.{CanBeAsked}
 use Rattle.ddf_steps.specs.Committed.{slots_of}
 use Rattle.ddf_seats.specs.Group.{GroupValue}
 use Rattle.ddf_steps.specs.Refusing.{step_refusal}
-use Rattle.ddf_seats.specs.Seated.{seated, seats_in, slots_in, views_in, is_adopted}
+use Rattle.ddf_seats.specs.Seated.{seated, slots_in, views_in, is_adopted}
 use Rattle.ddf_steps.specs.Steps.{config_after, disks_after, in_order, stays_in}
 use Rattle.ddf_seats.specs.Changing.{IsOfGroup}
 use Rattle.ddf_recovery.proofs.LeftStep.{same_view}
 use Rattle.ddf_steps.proofs.Ordered.{order_own}
+use Rattle.ddf_history.proofs.Common.{current_listed}
+use Rattle.ddf_history.proofs.Following.{changes_follow}
 use Rattle.ddf_history_steps.specs.Kept.{is_slot, unwritten}
 use Rattle.ddf_history_steps.specs.AtEnd.{IsAtEnd}
-use Rattle.ddf_history_steps.proofs.Changing.{change_acknowledged, change_joins_last, change_kept, follows, issued_kept}
+use Rattle.ddf_history_steps.proofs.Changing.{change_acknowledged, change_joins_last, change_kept, issued_kept}
 use Rattle.ddf_history_steps.proofs.ChangingCopies.{changed_views}
 use Rattle.ddf_history_steps.proofs.CommittingScenes.{seat_shows}
 use Rattle.ddf_history_steps.proofs.CommittingSeats.{IsWritten, can_change, copy_in, copy_is, is_written, new_is_copy, renewed, stays_written}
 use Rattle.ddf_history_steps.proofs.Slots.{slot_placed}
 use Rattle.ddf_history_steps.proofs.StepMembers.{AreMembers, after_members, stays_member}
 use Rattle.ddf_history_steps.proofs.Stops.{unwritten_here}
-use Rattle.ddf_history_steps.proofs.Claimed.{either_way}
+use Rattle.ddf_history_steps.proofs.RecoveringLossEnd.{slots_same}
 
 -- ---- lists
-
--- The reference of a current member is current.
-pub current_listed : (config : Configuration) (disk : Disk) → has_current config disk ≡ true → is_current config.members disk.reference ≡ true
-current_listed config disk is =
-    let is_here = λ (member : Member). bytes_eq member.guid disk.guid && not member.missing in
-    let there = value_there is_here (lookup (λ reference. eqb reference disk.reference) config.members) is in
-    let turned : lookup (nat_eq disk.reference) config.members ≡ Some there.0 =
-    ap (λ (test : ℕ → Bool). lookup test config.members) (fun_ext (λ (reference : ℕ). either_way disk.reference reference)) ∙ there.1 in
-    rw (turned, is_current) (and_parts (bytes_eq there.0.guid disk.guid) (not there.0.missing) there.2).1
-
--- The slots of seats are those of their disks.
-pub slots_seated : (disks : List Seated) → slots_of (seats_in disks) ≡ slots_in disks
-slots_seated [] = refl
-slots_seated (disk ∷ disks) = ap (λ (slots : List ℕ). disk.seat.slot ∷ slots) (slots_seated disks)
 
 module _ (group : List ℕ) {D : Type 0} (past : Past (groups group)) (state : BayState D) (found : GroupValue) (end : IsAtEnd group past state found)
     (timestamp : ℕ) (time : timestamp < 2 ^ 32) (change : Change) (asked : CanBeAsked change)
@@ -94,7 +77,7 @@ module _ (group : List ℕ) {D : Type 0} (past : Past (groups group)) (state : B
   new = changed_views old led next timestamp
 
   follow : MayFollow (groups group) found.config next
-  follow = follows group found.config change next.sequence rises
+  follow = changes_follow group found.config change next.sequence rises
 
   -- The change may be issued.
   pub step_issued : (image : Image) → IsLeft state.may_hold image → IsKept (issue past next) (scene_of state.sizes image)
@@ -165,8 +148,8 @@ module _ (group : List ℕ) {D : Type 0} (past : Past (groups group)) (state : B
   pub all_written : (slot : ℕ) → is_away past slot ≡ false → has_current next (past.disk slot) ≡ true → is_slot slots slot ≡ true
   all_written slot here current =
       let seat = slot_placed (slots_of found.seats) slot (end.are_seated slot here (follow.no_more (past.disk slot) current)) in
-      let same : slots_of found.seats ≡ slots_in (seated found) = sym (ap slots_of end.is_settled.are_seated) ∙ slots_seated (seated found) in
-      let own = map_get (λ (disk : Seated). disk.seat.slot) (seated found) seat.0 slot (sym (ap (λ (all : List ℕ). slice_get all seat.0) same) ∙ seat.1) in
+      let same : slots_of found.seats ≡ slots_in (seated found) = sym (ap slots_of end.is_settled.are_seated) ∙ slots_same (seated found) in
+      let own = in_map (λ (disk : Seated). disk.seat.slot) (seated found) seat.0 slot (sym (ap (λ (all : List ℕ). slice_get all seat.0) same) ∙ seat.1) in
       let is = end.are_members seat.0 own.0 own.1 in
       let named = member_names seat.0 own.0 own.1 ∙ ap past.disk own.2 in
       let listed = current_listed next (disk_of (view_of own.0.copy)) (ap (has_current next) named ∙ current) in

@@ -93,7 +93,7 @@ module _ (group : List ℕ) (past : Past (groups group)) (readable : ℕ → Boo
 abbrev raises_over : (sequence : ℕ) → Step → Bool
 raises_over sequence step = not (step.config.sequence == sequence)
 
-abbrev configs_of : List ReadyStep → List Configuration
+abbrev pub configs_of : List ReadyStep → List Configuration
 configs_of steps = map (λ (one : ReadyStep). one.step.config) steps
 
 kept_all : (sequence number : ℕ) (steps : List ReadyStep) → sequence ≤ number → DoRise number steps

@@ -1,20 +1,10 @@
 -- The items of a list that pass a test, and what is made of them.
-use Rattle.std.proofs.Common.{◌≡◌, ℕ, zero, suc, Bool, true, false, ◌||◌, List, [], ◌∷◌, Option, Some, if◌then◌else◌, refl, ap, sym, ◌∙◌}
+use Rattle.std.proofs.Common.{◌≡◌, ℕ, Bool, true, false, ◌||◌, List, [], ◌∷◌, Option, Some, if◌then◌else◌, refl}
 use Rattle.std.proofs.lemmas.Bool.{false≢true}
 use Rattle.std.specs.Prelude.{filter, filter_map, slice_get}
 use Rattle.std.specs.List.{list_any}
+use Rattle.ddf_lemmas.proofs.Lists.{kept_passes}
 use Rattle.ddf_rewrite.proofs.AllWanted.{filter_map_get}
-
--- An item that is kept passes.
-kept_passes : {X : Type 0} (test : X → Bool) (xs : List X) (place : ℕ) (x : X) → slice_get (filter test xs) place ≡ Some x → test x ≡ true
-kept_passes test [] place x at = absurd cc
-kept_passes {X = X} test (first ∷ xs) place x at = go (kept_passes test xs) (test first) refl place at
-  where
-    go : ((n : ℕ) (y : X) → slice_get (filter test xs) n ≡ Some y → test y ≡ true) → (b : Bool) → test first ≡ b
-        → (n : ℕ) → slice_get (if b then first ∷ filter test xs else filter test xs) n ≡ Some x → test x ≡ true
-    go later true is zero here = let same : first ≡ x = cc in ap test (sym same) ∙ is
-    go later true is (suc n) there = later n x there
-    go later false is n there = later n x there
 
 -- What is made of items that pass is made of one that does.
 pub made_of : {X Y : Type 0} (make : X → Option Y) (test : X → Bool) (xs : List X) (place : ℕ) (y : Y)
@@ -22,19 +12,6 @@ pub made_of : {X Y : Type 0} (make : X → Option Y) (test : X → Bool) (xs : L
 made_of make test xs place y at =
     let found = filter_map_get make (filter test xs) place y at in
     (found.1, kept_passes test xs found.0 found.1 found.2, found.3)
-
--- An item that passes is kept.
-pub passes_kept : {X : Type 0} (test : X → Bool) (xs : List X) (place : ℕ) (x : X) → slice_get xs place ≡ Some x → test x ≡ true
-    → (n : ℕ) × (slice_get (filter test xs) n ≡ Some x)
-passes_kept test [] place x at is = absurd cc
-passes_kept test (first ∷ xs) zero x at is =
-    let same : first ≡ x = cc in
-    (0, ap (λ (b : Bool). slice_get (if b then first ∷ filter test xs else filter test xs) 0) (ap test same ∙ is) ∙ at)
-passes_kept {X = X} test (first ∷ xs) (suc place) x at is = go (passes_kept test xs place x at is) (test first)
-  where
-    go : (n : ℕ) × (slice_get (filter test xs) n ≡ Some x) → (b : Bool) → (n : ℕ) × (slice_get (if b then first ∷ filter test xs else filter test xs) n ≡ Some x)
-    go later true = (suc later.0, later.1)
-    go later false = later
 
 -- an item that passes two tests
 abbrev pub PassesBoth : {X : Type 0} → (test also : X → Bool) → Type 0

@@ -1,9 +1,11 @@
 -- The floors of seats lie before all records of their disks, and stay there while steps of their group are written.
-use Rattle.std.proofs.Common.{◌≡◌, ◌⊎◌, ℕ, zero, suc, ◌≤◌, ◌==◌, Bool, true, false, List, [], ◌∷◌, map, min, Option, Some, None, Result, Ok, Err, if◌then◌else◌, inl, inr, refl, sym, ap, subst, ◌∙◌, arith}
+use Rattle.std.proofs.Common.{◌≡◌, ◌⊎◌, ℕ, zero, suc, ◌==◌, Bool, true, false, List, [], ◌∷◌, map, min, Option, Some, None, Result, Ok, Err, if◌then◌else◌, inl, inr, refl, sym, ap, subst, ◌∙◌, arith}
 use Rattle.std.proofs.lemmas.Bool.{eqb-true}
 use Rattle.std.proofs.lemmas.Option.{slice_get_within}
 use Rattle.std.specs.Prelude.{filter, filter_map, find, option_map, slice_get, unwrap_or}
 use Rattle.std.specs.List.{cons_option}
+use Rattle.ddf_lemmas.proofs.Lists.{all_from, filter_get, found_place, in_map}
+use Rattle.ddf_lemmas.proofs.Tests.{min_least}
 use Rattle.ddf_bay.specs.State.{BayState, size_of}
 use Rattle.ddf_header.specs.declared.geometry.Geometry.{Geometry}
 use Rattle.ddf_copy.specs.declared.copy.DiskCopy.{DiskCopy}
@@ -24,7 +26,7 @@ use Rattle.ddf_group.specs.Assembled.{assembled}
 use Rattle.ddf_group.specs.Shown.{shown_of}
 use Rattle.ddf_rewrite.specs.Before.{Before}
 use Rattle.ddf_rewrite.specs.Copies.{changed_copy, recovered_copy}
-use Rattle.ddf_rewrite.proofs.Lists.{all_at, all_by_get, all_mapped, found_place, map_get, some_same}
+use Rattle.ddf_rewrite.proofs.Lists.{all_at, all_mapped, some_same}
 use Rattle.ddf_history.specs.Groups.{groups}
 use Rattle.ddf_history.specs.Issued.{Past}
 use Rattle.ddf_seats.specs.declared.seated.Seated.{Seated}
@@ -45,15 +47,9 @@ use Rattle.ddf_seats.proofs.CommittedSeats.{seated_is}
 use Rattle.ddf_recovery.proofs.RecoveredGroup.{is_recovered}
 use Rattle.ddf_history_steps.specs.AtEnd.{IsAtEnd}
 use Rattle.ddf_history_steps.specs.BlockFloors.{AreFloored, HasFloor, HaveFloors, IsFloored, floor_in}
+use Rattle.ddf_history_steps.proofs.Told.{made_of}
 
 -- ---- lists and numbers
-
--- The least of three numbers is none of the last two's greater.
-min_le : (a b : ℕ) → (min a b ≤ a) × (min a b ≤ b)
-min_le a b = (omega arith, omega arith)
-
-min_least : (a b c : ℕ) → (min a (min b c) ≤ b) × (min a (min b c) ≤ c)
-min_least a b c = let inner = min_le b c in let outer = min_le a (min b c) in (omega (arith, inner.0, outer.1), omega (arith, inner.1, outer.1))
 
 -- What a map that leaves some out gives comes from one that it is given.
 cons_at : {X Y : Type 0} (f : X → Option Y) (x : X) (found : Option Y) → f x ≡ found → (others : List Y) (k : ℕ) (y : Y) → slice_get (cons_option found others) k ≡ Some y
@@ -65,17 +61,6 @@ cons_at f x (Some one) is others (suc k) y at rest = rest k at
 filtered_from : {X Y : Type 0} (f : X → Option Y) (xs : List X) (k : ℕ) (y : Y) → slice_get (filter_map f xs) k ≡ Some y → (x : X) × (f x ≡ Some y)
 filtered_from f [] k y at = absurd cc
 filtered_from f (x ∷ xs) k y at = cons_at f x (f x) refl (filter_map f xs) k y at (λ j. filtered_from f xs j y)
-
--- and what a filter keeps from one that it is given
-kept_at : {X : Type 0} (t : X → Bool) (x : X) (passes : Bool) (others : List X) (xs : List X) (k : ℕ) (y : X) → slice_get (if passes then x ∷ others else others) k ≡ Some y
-    → ((j : ℕ) → slice_get others j ≡ Some y → (i : ℕ) × (slice_get xs i ≡ Some y)) → (i : ℕ) × (slice_get (x ∷ xs) i ≡ Some y)
-kept_at t x true others xs zero y at rest = (0, at)
-kept_at t x true others xs (suc k) y at rest = let from = rest k at in (suc from.0, from.1)
-kept_at t x false others xs k y at rest = let from = rest k at in (suc from.0, from.1)
-
-kept_from : {X : Type 0} (t : X → Bool) (xs : List X) (k : ℕ) (y : X) → slice_get (filter t xs) k ≡ Some y → (i : ℕ) × (slice_get xs i ≡ Some y)
-kept_from t [] k y at = absurd cc
-kept_from t (x ∷ xs) k y at = kept_at t x (t x) (filter t xs) xs k y at (λ j. kept_from t xs j y)
 
 -- ---- the group as it was found
 
@@ -96,7 +81,7 @@ module _ (newest : List (Option Newest)) where
   copy_stands slot found copy at stands = rw at stands
 
 found_floored : (found : GroupValue) (slots : List ℕ) → found.seats ≡ seats_of found.newest slots → AreFloored (seated found)
-found_floored found slots are = all_by_get IsFloored (seated found) (λ k disk at.
+found_floored found slots are = all_from IsFloored (seated found) (λ k disk at.
     let is = seated_is found k disk at in
     let made = seat_made found.newest slots is.place disk.seat (sym (ap (λ (seats : List Seat). slice_get seats is.place) are) ∙ is.is_seat) in
     let by = by_copy found.newest made.0 disk.seat (copy_at found.newest made.0) refl made.1 in
@@ -104,22 +89,19 @@ found_floored found slots are = all_by_get IsFloored (seated found) (λ k disk a
     let own : by.0 ≡ disk.copy = some_same (sym (ap (copy_at found.newest) slot) ∙ by.1) (copy_stands found.newest disk.seat.slot is.found disk.copy is.is_found is.stands) in
     ap (λ (seat : Seat). seat.floor) (sym by.2) ∙ ap floor_of own)
 
-made_group : (newest : List (Option Newest)) (found : Assembled) (g : GroupValue) → group_or_fault newest (Ok found) ≡ Ok g → group_as newest found ≡ g
-made_group newest found g is = cc
-
 pub group_floored : (newest : List (Option Newest)) (named : Option (List ℕ)) (found : GroupValue) → group_of newest named ≡ Ok found → AreFloored (seated found)
 unfolding group_of
 group_floored newest named found is = by (assembled (map shown_of newest) named) is
   where
     by : (answer : Result Assembled Assembly) → group_or_fault newest answer ≡ Ok found → AreFloored (seated found)
     by (Ok one) made =
-        let same = made_group newest one found made in
+        let same = made_of newest one found made in
         subst (λ (group : GroupValue). AreFloored (seated group)) same (found_floored (group_as newest one) one.seats refl)
     by (Err fault) made = absurd cc
 
 -- ---- the recovered group
 
-mended_floor : (leaders : Before) (config : Configuration) (timestamp : ℕ) (copy : DiskCopy) → floor_of (written_as (mended_copy leaders config timestamp copy) Primary) ≡ floor_of copy
+pub mended_floor : (leaders : Before) (config : Configuration) (timestamp : ℕ) (copy : DiskCopy) → floor_of (written_as (mended_copy leaders config timestamp copy) Primary) ≡ floor_of copy
 unfolding recovered_copy
 mended_floor leaders config timestamp copy = by (shows config (view_of copy))
   where
@@ -127,7 +109,7 @@ mended_floor leaders config timestamp copy = by (shows config (view_of copy))
     by true = refl
     by false = refl
 
-changed_floor : (leaders : Before) (config : Configuration) (timestamp : ℕ) (copy : DiskCopy) → floor_of (written_as (changed_copy copy leaders config timestamp) Primary) ≡ floor_of copy
+pub changed_floor : (leaders : Before) (config : Configuration) (timestamp : ℕ) (copy : DiskCopy) → floor_of (written_as (changed_copy copy leaders config timestamp) Primary) ≡ floor_of copy
 unfolding changed_copy
 changed_floor leaders config timestamp copy = refl
 
@@ -143,8 +125,8 @@ changes : (timestamp : ℕ) (leaders : Before) (config : Configuration) (disks :
 unfolding disks_after
 changes timestamp leaders config disks are =
     all_mapped IsFloored (rewritten leaders config timestamp) (filter (stays_in config) disks)
-    (all_by_get (λ (disk : Seated). IsFloored (rewritten leaders config timestamp disk)) (filter (stays_in config) disks) (λ k disk at.
-    let from = kept_from (stays_in config) disks k disk at in
+    (all_from (λ (disk : Seated). IsFloored (rewritten leaders config timestamp disk)) (filter (stays_in config) disks) (λ k disk at.
+    let from = filter_get (stays_in config) disks k disk at in
     all_at IsFloored disks from.0 disk are from.1 ∙ sym (changed_floor leaders config timestamp disk.copy)))
 
 recovered_disks : (timestamp : ℕ) (group : GroupValue) → AreFloored (seated group) → AreFloored (disks_recovered timestamp group)
@@ -155,7 +137,7 @@ recovered_disks timestamp group are = by (some group.absent)
     by true = all_mapped IsFloored levelled (lost_step timestamp group).disks (changes timestamp (leading group) (config_lost group) (seated group) are)
     by false =
         all_mapped IsFloored (mended_or_kept timestamp group) (seated group)
-        (all_by_get (λ (disk : Seated). IsFloored (mended_or_kept timestamp group disk)) (seated group) (λ k disk at. mends timestamp group disk (all_at IsFloored (seated group) k disk are at)))
+        (all_from (λ (disk : Seated). IsFloored (mended_or_kept timestamp group disk)) (seated group) (λ k disk at. mends timestamp group disk (all_at IsFloored (seated group) k disk are at)))
 
 pub recovered_floored : (found : GroupValue) (asked : List Change) (timestamp : ℕ) (ready : ReadyValue) → WasReadied found asked timestamp ready → AreFloored (seated found)
     → AreFloored (seated (group_recovered found ready.recovery))
@@ -180,7 +162,7 @@ next_by found recovery (one ∷ others) is are =
     let rise = subst SlotsRise (sym is.is_settled.are_seated) is.is_settled.slots_rise in
     subst AreFloored (sym (after_is found one rise is.follows.0 is.rewrites.0))
     (all_mapped IsFloored levelled one.step.disks
-    (all_by_get IsFloored one.step.disks (λ k disk at.
+    (all_from IsFloored one.step.disks (λ k disk at.
     rewritten_floored (seated found) one.step.config disk (all_at (IsRewritten (seated found) one.step.config) one.step.disks k disk is.rewrites.0 at) are)))
 
 pub next_floored : (found : GroupValue) (ready : ReadyValue) → IsReadyFor found ready → AreFloored (seated found) → AreFloored (seated (group_next found ready))
@@ -191,7 +173,7 @@ next_floored found ready is are = next_by found ready.recovery ready.steps is ar
 module _ (group : List ℕ) {D : Type 0} (past : Past (groups group)) (disks : BayState D) (found : GroupValue) (end : IsAtEnd group past disks found) (are : AreFloored (seated found)) where
   at_place : (place : ℕ) (seat : Seat) → slice_get found.seats place ≡ Some seat → HasFloor disks seat.slot seat.floor
   at_place place seat at =
-      let own = map_get (λ (disk : Seated). disk.seat) (seated found) place seat (ap (λ (seats : List Seat). slice_get seats place) end.is_settled.are_seated ∙ at) in
+      let own = in_map (λ (disk : Seated). disk.seat) (seated found) place seat (ap (λ (seats : List Seat). slice_get seats place) end.is_settled.are_seated ∙ at) in
       let disk = own.0 in
       let level = all_at (IsLevelIn found) (seated found) place disk end.is_settled.are_level own.1 in
       let held = end.holds.are_held disk.seat.slot (Level disk.copy) level.is_newest in

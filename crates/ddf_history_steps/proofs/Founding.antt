@@ -6,6 +6,7 @@ use Rattle.std.proofs.lemmas.List.{length-map}
 use Rattle.std.proofs.Math.Path.{fun_ext}
 use Rattle.std.specs.Prelude.{slice_get, slice_index}
 use Rattle.std.specs.Str.{bytes_eq}
+use Rattle.ddf_lemmas.proofs.Lists.{bytes_same}
 use Rattle.ddf_bytes.specs.declared.stamp.Stamp.{Stamp}
 use Rattle.ddf_header.specs.declared.kind.Revision.{Revision}
 use Rattle.ddf_bay.specs.Sectors.{Image, IsLeft}
@@ -19,7 +20,6 @@ use Rattle.ddf_update.specs.NewCopies.{disk_guid, group_of, new_copy, reference_
 use Rattle.ddf_view.specs.View.{View, lists_current}
 use Rattle.ddf_view.specs.Reading.{read}
 use Rattle.ddf_view.specs.Differ.{difference}
-use Rattle.ddf_view.proofs.Tests.{bytes_same}
 use Rattle.ddf_history.specs.Reading.{Scene, Shown, IsCopyOf, stands}
 use Rattle.ddf_history.specs.Reading.Shown.{One}
 use Rattle.ddf_history.specs.Issued.{Past}

@@ -5,6 +5,8 @@ use Rattle.std.specs.Prelude.{nat_lt, slice_get, slice_index_or}
 use Rattle.std.specs.Map.{lookup}
 use Rattle.std.specs.Option.{option_map_or}
 use Rattle.std.specs.Str.{bytes_eq}
+use Rattle.std.proofs.lemmas.Option.{same_Some}
+use Rattle.ddf_lemmas.proofs.Lists.{bytes_same}
 use Rattle.ddf_bytes.specs.declared.stamp.Stamp.{Stamp}
 use Rattle.ddf_header.specs.declared.kind.Revision.{Revision}
 use Rattle.ddf_bay.specs.State.{BayState}
@@ -15,7 +17,6 @@ use Rattle.ddf_update.specs.Group.{AreSlots, slot_sizes}
 use Rattle.ddf_update.specs.declared.new_layout.NewLayout.{NewLayout}
 use Rattle.ddf_update.specs.NewCopies.{group_of, new_copy, reference_at}
 use Rattle.ddf_view.specs.View.{View, view_of}
-use Rattle.ddf_view.proofs.Tests.{bytes_same}
 use Rattle.ddf_group.specs.declared.answer.Assembly.{Assembly}
 use Rattle.ddf_group.specs.declared.answer.Assembly.TheVariants as faults
 use Rattle.ddf_history.specs.Answer.{HasMember, IsPromised, IsReadable}
@@ -25,7 +26,6 @@ use Rattle.ddf_history.specs.Promise.{IsKept}
 use Rattle.ddf_history.specs.Reading.{IsCopyOf, Shown}
 use Rattle.ddf_history.specs.Reading.Shown.{One}
 use Rattle.ddf_history.specs.Scenes.{scene_of}
-use Rattle.ddf_history.proofs.Since.{some_is}
 use Rattle.ddf_seats.specs.Group.{GroupValue}
 use Rattle.ddf_assembly.specs.Group.{group_of as group_in}
 use Rattle.ddf_assembly.specs.Slots.{newest_from}
@@ -108,7 +108,7 @@ module _ (layout : NewLayout) (revision : Revision) (stamp : Stamp) (sizes slots
 
   -- Only the founding configuration was issued.
   only_founding : (number : ℕ) (config : Configuration) → slice_get (founding ∷ []) number ≡ Some config → config ≡ founding
-  only_founding zero config is = some_is config founding (sym is)
+  only_founding zero config is = same_Some config founding (sym is)
   only_founding (suc number) config is = absurd cc
 
   -- Nothing contradicts it.

@@ -5,6 +5,7 @@ use Rattle.std.specs.Prelude.{is_some, option_map, slice_get}
 use Rattle.std.specs.List.{AllByRecursion, IsDistinct}
 use Rattle.std.specs.Option.{option_map_or}
 use Rattle.std.specs.Str.{bytes_eq}
+use Rattle.ddf_lemmas.proofs.Lists.{bytes_same}
 use Rattle.ddf_bytes.specs.declared.stamp.Stamp.{Stamp}
 use Rattle.ddf_header.specs.declared.kind.Revision.{Revision}
 use Rattle.ddf_tables.specs.declared.arrays.ArrayEntry.{ArrayEntry}
@@ -21,7 +22,6 @@ use Rattle.ddf_update.specs.declared.new_layout.NewLayout.TheVariants.{Large, Sm
 use Rattle.ddf_update.specs.NewCopies.{disk_guid, entries_from, group_of, new_arrays, new_copy, new_notes, new_slots, reference_at, unused_slot}
 use Rattle.ddf_update.specs.NewLayouts.{record_length_of, rows_of, slots_of}
 use Rattle.ddf_view.specs.View.{View, HeldRecord, array_of, disk_of, first_spare, held_from, is_missing, lists_current, view_of}
-use Rattle.ddf_view.proofs.Tests.{bytes_same}
 use Rattle.ddf_history.proofs.Since.{which}
 use Rattle.ddf_history_steps.proofs.FoundingViews.{plain_view}
 

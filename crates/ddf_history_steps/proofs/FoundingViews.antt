@@ -1,17 +1,19 @@
 -- Views with notes, no array and no record: what they give, and that those of one disk table agree.
-use Rattle.std.proofs.Common.{◌≡◌, ℕ, Bool, true, false, not, List, [], ◌∷◌, Option, None, Some, if◌then◌else◌, refl, ap, map, filter, nat_eq}
+use Rattle.std.proofs.Common.{◌≡◌, ℕ, Bool, true, false, not, List, [], ◌∷◌, Option, None, Some, if◌then◌else◌, refl, ap, map, nat_eq}
 use Rattle.std.proofs.lemmas.Bool.{and_from, eq-eqb}
 use Rattle.std.specs.List.{IsDistinct}
 use Rattle.std.specs.Option.{option_eq}
 use Rattle.std.specs.Cmp.Lexicographic.{pointwise}
+use Rattle.ddf_lemmas.proofs.Lists.{bytes_same, none_passes}
 use Rattle.ddf_tables.specs.declared.disks.DiskEntry.{DiskEntry}
 use Rattle.ddf_config.specs.declared.member.SpareUse.TheVariants as spares
 use Rattle.ddf_config.specs.Configuration.{Configuration}
 use Rattle.ddf_view.specs.View.{View, has_bit, is_missing}
 use Rattle.ddf_view.specs.Reading.{member_entry_in, read, spare_in}
-use Rattle.ddf_view.specs.Shows.{gives_member, gives_spare, same_flag, same_spare, shows, shows_fully}
-use Rattle.ddf_view.specs.Differ.{difference, differing_disks, disk_differs, numbered_disk, same_disk, told_kind}
-use Rattle.ddf_view.proofs.Tests.{bytes_same}
+use Rattle.ddf_view.specs.Shows.{gives_member, gives_spare, same_spare, shows, shows_fully}
+use Rattle.ddf_view.specs.Differ.{difference, differing_disks, disk_differs, numbered_disk, same_disk}
+use Rattle.ddf_view.proofs.AlikeCopies.{flag_again}
+use Rattle.ddf_view.proofs.Common.{disk_itself}
 use Rattle.ddf_history.specs.Groups.{ShowsFully}
 
 -- a view with these disks, with notes, and with no array and no record
@@ -30,18 +32,13 @@ plain_view group guid reference disks = record {
 
 -- ---- what is shown
 
--- A flag is itself.
-flag_itself : (flag : Bool) → same_flag flag flag ≡ true
-flag_itself true = refl
-flag_itself false = refl
-
 -- A disk gives the member that is read of it.
 member_given : (views : List View) (disk : DiskEntry) → gives_member disk (member_entry_in views disk) ≡ true
 member_given views disk =
-    rw (eq-eqb disk.reference disk.reference refl, bytes_same disk.guid, eq-eqb disk.size disk.size refl, flag_itself (is_missing disk)) refl
+    rw (eq-eqb disk.reference disk.reference refl, bytes_same disk.guid, eq-eqb disk.size disk.size refl, flag_again (is_missing disk)) refl
 
 -- So do all.
-members_given : (views : List View) (disks : List DiskEntry) → pointwise gives_member disks (map (member_entry_in views) disks) ≡ true
+pub members_given : (views : List View) (disks : List DiskEntry) → pointwise gives_member disks (map (member_entry_in views) disks) ≡ true
 members_given views [] = refl
 members_given views (disk ∷ disks) =
     and_from (gives_member disk (member_entry_in views disk)) (pointwise gives_member disks (map (member_entry_in views) disks))
@@ -99,23 +96,10 @@ module _ (group first_guid guid : List ℕ) (first reference : ℕ) (all : List 
 
 -- ---- agreement
 
--- A disk is the same as itself.
-disk_itself : (placed : ℕ × DiskEntry) → same_disk placed placed ≡ true
-disk_itself placed =
-    let disk = placed.1 in
-    let types = eq-eqb (told_kind disk) (told_kind disk) refl in
-    let states = eq-eqb disk.state.0 disk.state.0 refl in
-    rw (eq-eqb placed.0 placed.0 refl, bytes_same disk.guid, types, states, eq-eqb disk.size disk.size refl) refl
-
 -- What is found in a table is the same as itself.
 found_itself : (found : Option (ℕ × DiskEntry)) → option_eq same_disk found found ≡ true
 found_itself None = refl
 found_itself (Some placed) = disk_itself placed
-
--- Nothing passes a test that none passes.
-none_passes : {X : Type 0} (test : X → Bool) → ((x : X) → test x ≡ false) → (xs : List X) → filter test xs ≡ []
-none_passes test none [] = refl
-none_passes test none (x ∷ xs) = let rest = none_passes test none xs in rw (none x, rest) refl
 
 -- A table doesn't differ from itself.
 none_differs : (disks : List DiskEntry) → differing_disks disks disks ≡ []

@@ -2,10 +2,12 @@
 use Rattle.std.proofs.Common.{◌≡◌, ℕ, suc, ◌+◌, Bool, true, false, List, [], ◌∷◌, ◌++◌, length, take, Some, if◌then◌else◌, refl, sym, subst, arith}
 use Rattle.std.proofs.lemmas.List.{length-append, length-take}
 use Rattle.std.specs.Prelude.{slice_get}
+use Rattle.std.proofs.lemmas.Option.{slice_get_within}
+use Rattle.ddf_lemmas.proofs.Lists.{get_last}
 use Rattle.ddf_config.specs.Configuration.{Configuration}
 use Rattle.ddf_history.specs.Groups.{groups}
 use Rattle.ddf_history.specs.Issued.{Past, IsSince, issue, leave_out, take_off}
-use Rattle.ddf_history.proofs.Lists.{get_last, get_within, taken_get}
+use Rattle.ddf_history.proofs.Lists.{taken_get}
 use Rattle.ddf_seats.specs.Group.{GroupValue}
 use Rattle.ddf_seats.specs.Leading.{some}
 use Rattle.ddf_history_steps.specs.Going.{IsOver, begun, issue_all}
@@ -48,7 +50,7 @@ module _ (group : List ℕ) where
         taken = (
           taken_get past.changes.issued (number + 1) number found.config since.is_there (omega arith),
           let all = length-take (number + 1) past.changes.issued in
-              let within = get_within past.changes.issued number found.config since.is_there in
+              let within = slice_get_within past.changes.issued number found.config since.is_there in
               omega (arith, all, within),
         )
 

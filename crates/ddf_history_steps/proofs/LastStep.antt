@@ -4,9 +4,9 @@ use Rattle.std.proofs.lemmas.Bool.{eq-eqb, ne_eqb}
 use Rattle.std.proofs.lemmas.List.{length-map}
 use Rattle.std.specs.Prelude.{option_to_list, slice_get}
 use Rattle.std.specs.List.{AllByRecursion}
+use Rattle.ddf_lemmas.proofs.Lists.{mapped_at}
 use Rattle.ddf_config.specs.Configuration.{Configuration}
 use Rattle.ddf_plan.specs.declared.change.Change.{Change}
-use Rattle.ddf_rewrite.proofs.Lists.{get_map}
 use Rattle.ddf_seats.specs.Group.{GroupValue}
 use Rattle.ddf_steps.specs.Ready.{AreNumbered}
 use Rattle.ddf_recovery.specs.Ready.{readied}
@@ -18,31 +18,31 @@ use Rattle.ddf_recovery.proofs.ReadiedSteps.{are_tried, behind, loss_rises, none
 use Rattle.ddf_history_steps.specs.Going.{changes_in}
 
 -- The sequence number of each of these steps is greater.
-abbrev AreAbove : ℕ → List Step → Type 0
+abbrev pub AreAbove : ℕ → List Step → Type 0
 AreAbove sequence = AllByRecursion (λ (step : Step). sequence < step.config.sequence)
 
-numbered_above : (first sequence : ℕ) (steps : List Step) → first ≤ sequence → AreNumbered sequence steps → AreAbove first steps
+pub numbered_above : (first sequence : ℕ) (steps : List Step) → first ≤ sequence → AreNumbered sequence steps → AreAbove first steps
 numbered_above first sequence [] le are = tt
 numbered_above first sequence (step ∷ steps) le are =
     let more = are.0 in
     (omega (arith, le, more), numbered_above first step.config.sequence steps (omega (arith, le, more)) are.2)
 
 -- what the steps make of the configuration, one after another
-abbrev configs : List Step → List Configuration
+abbrev pub configs : List Step → List Configuration
 configs steps = map (λ (step : Step). step.config) steps
 
 -- whether a step raises the sequence number
-abbrev raises : GroupValue → Step → Bool
+abbrev pub raises : GroupValue → Step → Bool
 raises found step = not (step.config.sequence == found.config.sequence)
 
 -- A step that does issues its configuration.
-first_issued : (found : GroupValue) (step : Step) (others : List Step) (same : Bool) → (step.config.sequence == found.config.sequence) ≡ same
+pub first_issued : (found : GroupValue) (step : Step) (others : List Step) (same : Bool) → (step.config.sequence == found.config.sequence) ≡ same
     → changes_in found (step ∷ others) ≡ (if same then changes_in found others else step.config ∷ changes_in found others)
 first_issued found step others true is = ap (λ (same : Bool). configs (cond (not same) (step ∷ filter (raises found) others) (filter (raises found) others))) is
 first_issued found step others false is = ap (λ (same : Bool). configs (cond (not same) (step ∷ filter (raises found) others) (filter (raises found) others))) is
 
 -- Where all do each of them is issued.
-above_issued : (found : GroupValue) (steps : List Step) → AreAbove found.config.sequence steps → changes_in found steps ≡ configs steps
+pub above_issued : (found : GroupValue) (steps : List Step) → AreAbove found.config.sequence steps → changes_in found steps ≡ configs steps
 above_issued found [] above = refl
 above_issued found (step ∷ steps) above =
     let more = above.0 in
@@ -54,7 +54,7 @@ last_config : (first : Configuration) (steps : List Step) (number : ℕ) (step :
     → slice_get (first ∷ configs steps) (length (configs steps)) ≡ Some step.config
 last_config first steps number step at last =
     let long : length (configs steps) ≡ suc number = length-map steps (λ (one : Step). one.config) ∙ sym last ∙ omega arith in
-    subst (λ (n : ℕ). slice_get (first ∷ configs steps) n ≡ Some step.config) (sym long) (get_map (λ (one : Step). one.config) steps number step at)
+    subst (λ (n : ℕ). slice_get (first ∷ configs steps) n ≡ Some step.config) (sym long) (mapped_at (λ (one : Step). one.config) steps number step at)
 
 module _ (found : GroupValue) (changes : List Change) (timestamp : ℕ) (steps : List Step) (are : readied found changes timestamp ≡ Ok steps) where
   -- the steps behind the recovery
@@ -111,7 +111,7 @@ module _ (found : GroupValue) (changes : List Change) (timestamp : ℕ) (steps :
         let first = mending_step timestamp found in
         let none : changes_in found (first ∷ others) ≡ configs others =
         first_issued found first others true (eq-eqb found.config.sequence found.config.sequence refl) ∙ above_issued found others others_above in
-        let there = get_map (λ (one : Step). one.config) (first ∷ others) number step (subst (λ (list : List Step). slice_get list number ≡ Some step) same at) in
+        let there = mapped_at (λ (one : Step). one.config) (first ∷ others) number step (subst (λ (list : List Step). slice_get list number ≡ Some step) same at) in
         let long : number ≡ length (configs others) = let all = last ∙ ap (λ (list : List Step). length list) same in let mapped = length-map others (λ (one : Step). one.config) in omega (arith, all, mapped) in
         subst IsLastOf (sym same)
         (subst (λ (issued : List Configuration). slice_get (found.config ∷ issued) (length issued) ≡ Some step.config) (sym none)

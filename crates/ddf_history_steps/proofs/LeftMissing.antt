@@ -2,6 +2,7 @@
 use Rattle.std.proofs.Common.{◌≡◌, ℕ, ◌+◌, true, List, [], ◌∷◌, length, Some, Ok, refl, ap, subst, arith}
 use Rattle.std.proofs.lemmas.Bool.{false≢true}
 use Rattle.std.specs.Prelude.{slice_get}
+use Rattle.ddf_lemmas.proofs.Lists.{some_at_place}
 use Rattle.ddf_config.specs.Configuration.{Configuration}
 use Rattle.ddf_plan.specs.Lose.{is_among}
 use Rattle.ddf_plan.specs.declared.change.Change.{Change}
@@ -13,7 +14,6 @@ use Rattle.ddf_recovery.specs.Ready.{readied}
 use Rattle.ddf_recovery.specs.Recovery.{config_lost, config_recovered, lost_step, recovery_of}
 use Rattle.ddf_seats.specs.Leading.{some}
 use Rattle.ddf_steps.specs.Steps.{Step}
-use Rattle.ddf_seats.proofs.CommittedSeats.{get_there}
 use Rattle.ddf_recovery.proofs.ReadiedSteps.{behind}
 use Rattle.ddf_history_steps.proofs.AllSteps.{AllSteps, readied_all}
 use Rattle.ddf_history_steps.proofs.LastStep.{lost_first, lost_is}
@@ -57,5 +57,5 @@ module _ (found : GroupValue) (changes : List Change) (timestamp : ℕ) (steps :
       let all = lost_first found changes timestamp steps are some_absent in
       let rest = behind found changes timestamp steps are in
       let long : length rest + 1 ≡ length steps = let same = ap (λ (one : List Step). length one) all in omega (arith, same) in
-      let there = get_there steps (length rest) (omega (arith, long)) in
+      let there = some_at_place steps (length rest) (omega (arith, long)) in
       (length rest, there.0, there.1, long)

@@ -1,9 +1,9 @@
 -- A call on a group makes no disk a current member that was none since the last acknowledged configuration, and keeps missing what was missing.
 use Rattle.std.proofs.Common.{◌≡◌, ◌⊎◌, ℕ, suc, ◌+◌, ◌≤◌, ◌==◌, not, Bool, true, false, List, [], ◌∷◌, length, filter, take, Option, Some, None, Ok, if◌then◌else◌, refl, ap, sym, subst, inl, inr, ⊎_elim, arith}
 use Rattle.std.specs.Prelude.{slice_get}
+use Rattle.ddf_lemmas.proofs.Lists.{filter_get, in_map}
 use Rattle.ddf_config.specs.Configuration.{Configuration}
 use Rattle.ddf_plan.specs.declared.change.Change.{Change}
-use Rattle.ddf_rewrite.proofs.Lists.{map_get}
 use Rattle.ddf_history.specs.Groups.{Disk, groups, has_current, has_missing}
 use Rattle.ddf_history.specs.Issued.{IsSince, Past, issue, leave_out, take_off}
 use Rattle.ddf_history.proofs.Following.{changes_follow}
@@ -13,7 +13,6 @@ use Rattle.ddf_recovery.specs.Ready.{readied}
 use Rattle.ddf_recovery.specs.Recovery.{config_lost, config_recovered, loss, lost_step, mending_step, recovery_of}
 use Rattle.ddf_seats.specs.Leading.{some}
 use Rattle.ddf_steps.specs.Steps.{Step, config_after}
-use Rattle.ddf_seats.proofs.Lists.{filter_get}
 use Rattle.ddf_history_steps.specs.Members.{KeepsMembers}
 use Rattle.ddf_history_steps.proofs.AllSteps.{AllSteps, readied_all}
 use Rattle.ddf_history_steps.proofs.SlotsKept.{ends_slots}
@@ -141,7 +140,7 @@ module _ (group : List ℕ) where
       → (number : ℕ) × (step : Step) × (slice_get steps number ≡ Some step) × (step.config ≡ config)
   changed_step found steps i config at =
       let later : Step → Bool = λ step. not (step.config.sequence == found.config.sequence) in
-      let one = map_get (λ (step : Step). step.config) (filter later steps) i config at in
+      let one = in_map (λ (step : Step). step.config) (filter later steps) i config at in
       let from = filter_get later steps i one.0 one.1 in
       (from.0, one.0, from.1, one.2)
 

@@ -1,12 +1,14 @@
 -- Leaders give what they gave where copies that were recovered from them stand among them.
 use Rattle.std.proofs.Common.{◌≡◌, ◌⊎◌, ℕ, zero, suc, ◌<◌, ◌||◌, ◌&&◌, not, Bool, true, false, List, [], ◌∷◌, map, Option, Some, None, refl, ap, sym, ◌∙◌, inl, inr, ⊎_elim, subst}
-use Rattle.std.proofs.lemmas.Bool.{and_parts, cases_order, false≢true, true≢false}
+use Rattle.std.proofs.lemmas.Bool.{and_parts, cases_order, false≢true, true≢false, not-false}
 use Rattle.std.proofs.lemmas.List.Folds.{find-append}
 use Rattle.std.proofs.lemmas.Simd.{map-map}
 use Rattle.std.specs.Prelude.{slice_get, is_some, option_map}
-use Rattle.std.specs.Option.{option_or}
 use Rattle.std.specs.List.{AllByRecursion, list_any}
 use Rattle.std.specs.Int.{w16}
+use Rattle.std.proofs.lemmas.Map.Keys.{any_passes_from_place}
+use Rattle.ddf_lemmas.proofs.Lists.{all_from, any_place, in_map}
+use Rattle.ddf_lemmas.proofs.Options.{none_of_both}
 use Rattle.ddf_bytes.specs.Bytes.{number_at}
 use Rattle.ddf_tables.specs.declared.disks.DiskEntry.{DiskEntry}
 use Rattle.ddf_tables.specs.declared.arrays.ArrayEntry.{ArrayEntry}
@@ -20,6 +22,7 @@ use Rattle.ddf_view.specs.Differ.{difference, held_differ, same_held, same_notes
 use Rattle.ddf_view.specs.Reading.{are_noted, array_entry_in, array_in, arrays_in, count_in, disks_in, element_in, elements_in, is_associated, is_dedicated, names_array, naming_record, plan_of, read}
 use Rattle.ddf_view.specs.Shows.{shows}
 use Rattle.ddf_view.specs.View.{HeldRecord, View, find_held, find_note, is_element, view_of}
+use Rattle.ddf_view.proofs.Common.{plan_anywhere}
 use Rattle.ddf_rewrite.specs.Arrays.{array_on, arrays_after}
 use Rattle.ddf_rewrite.specs.Before.{before}
 use Rattle.ddf_rewrite.specs.Copies.{recovered_copy}
@@ -27,24 +30,19 @@ use Rattle.ddf_rewrite.specs.Disks.{disk_on, disks_for, filled, recovered_disks}
 use Rattle.ddf_rewrite.specs.Hold.{CanBeRecovered, DoAgree}
 use Rattle.ddf_rewrite.specs.Wanted.{all_wanted}
 use Rattle.ddf_rewrite.proofs.AgreedLeaders.{copies_agreed}
-use Rattle.ddf_rewrite.proofs.Differences.{Agrees, agrees, agrees_back, agrees_self, not_false}
+use Rattle.ddf_rewrite.proofs.Differences.{Agrees, agrees, agrees_back, agrees_self}
 use Rattle.ddf_rewrite.proofs.Filled.{filled_use}
 use Rattle.ddf_rewrite.proofs.Holdings.{AreSame, are_same, same_back, same_on}
-use Rattle.ddf_rewrite.proofs.Lists.{all_at, all_by_get, map_get, some_same}
+use Rattle.ddf_rewrite.proofs.Lists.{all_at, some_same}
 use Rattle.ddf_rewrite.proofs.Noted.{NotesFirst, all_notes_first, found_in, noted_in, notes_first, some_noted}
 use Rattle.ddf_rewrite.proofs.ReadCan.{is_read as wanted_read}
 use Rattle.ddf_rewrite.proofs.Recovered.{recovered_arrays, recovered_away, recovered_disks_are, recovered_shows}
-use Rattle.ddf_history_steps.proofs.MendingLists.{any_get, map_stays, some_of}
+use Rattle.ddf_history_steps.proofs.MendingLists.{map_stays}
 use Rattle.ddf_history_steps.proofs.MendingReading.{AreAlike, KeepsArray, KeepsDisk, RecordsAlike, associated_alike, numbers_alike, read_alike}
-use Rattle.ddf_history_steps.proofs.MendingPlans.{element_at, noted_gives, plan_alike, plan_anywhere, plan_made}
+use Rattle.ddf_history_steps.proofs.MendingPlans.{element_at, noted_gives, plan_alike, plan_made}
 use Rattle.ddf_history_steps.proofs.MendingSpares.{recovered_dedicated, recovered_noted}
 
 -- ---- the records of several views
-
--- Neither is there where none of both is.
-none_of_both : (o p : Option HeldRecord) → option_or o p ≡ None → (o ≡ None) × (p ≡ None)
-none_of_both None p h = (refl, h)
-none_of_both (Some x) p h = absurd cc
 
 -- What isn't found among all isn't found in one.
 lacks : (array : List ℕ) (index : ℕ) (views : List View) (m : ℕ) (view : View) → find_held array index (elements_in views) ≡ None → slice_get views m ≡ Some view → find_held array index view.elements ≡ None
@@ -151,7 +149,7 @@ module _ (group : List ℕ) (sequence timestamp : ℕ) (leaders : List DiskCopy)
     ]
   ]
   view_agrees view one (inr fresh) k at =
-      let from = map_get view_of leaders k one at in
+      let from = in_map view_of leaders k one at in
       let none = (copies_agreed fresh.old group sequence leaders timestamp fresh.can leaders_can agreed k from.0 from.1).0 in
       agrees view one (subst (λ (v : View). difference v one ≡ None) fresh.is_view (subst (λ (v : View). difference (view_of (recovered_copy fresh.old (before views) config timestamp)) v ≡ None) from.2 none))
 
@@ -159,7 +157,7 @@ module _ (group : List ℕ) (sequence timestamp : ℕ) (leaders : List DiskCopy)
   held_same : (guid : List ℕ) (i : ℕ) (view one : View) → ((m : ℕ) × (slice_get views m ≡ Some view)) ⊎ Recovered view → (k : ℕ) → slice_get views k ≡ Some one → (x y : HeldRecord) → find_held guid i view.elements ≡ Some x → find_held guid i one.elements ≡ Some y → AreSame x.element y.element
   held_same guid i view one is k at x y found other =
       let alike = (view_agrees view one is k at).elements (guid, i) in
-      let same : same_held x y ≡ true = not_false (same_held x y) (sym (ap (λ (o : Option HeldRecord). held_differ o (find_held guid i one.elements)) found ∙ ap (held_differ (Some x)) other) ∙ alike) in
+      let same : same_held x y ≡ true = not-false (same_held x y) (sym (ap (λ (o : Option HeldRecord). held_differ o (find_held guid i one.elements)) found ∙ ap (held_differ (Some x)) other) ∙ alike) in
       are_same x.element y.element (and_parts (same_record x.element y.element) (same_notes x y) same).0
 
   -- A recovered copy holds no element that no leader holds.
@@ -205,7 +203,7 @@ module _ (group : List ℕ) (sequence timestamp : ℕ) (leaders : List DiskCopy)
 
   -- So it is in each copy.
   grown_notes : AllByRecursion NotesFirst grown
-  grown_notes = all_by_get NotesFirst grown (λ k view at. ⊎_elim
+  grown_notes = all_from NotesFirst grown (λ k view at. ⊎_elim
       (λ led. all_at NotesFirst views led.0 view views_notes led.1)
       (λ fresh. subst NotesFirst fresh.is_view (notes_first (recovered_copy fresh.old (before views) config timestamp) fresh.is_copy))
       (are.each k view at))
@@ -281,15 +279,15 @@ module _ (group : List ℕ) (sequence timestamp : ℕ) (leaders : List DiskCopy)
     where
       up : are_noted views ≡ true → are_noted grown ≡ true
       up h =
-          let from = some_of (λ (view : View). view.noted) views h in
+          let from = any_place (λ (view : View). view.noted) views h in
           let there = are.all from.0 from.1 from.2 in
-          any_get (λ (view : View). view.noted) grown there.0 from.1 there.1 from.3
+          any_passes_from_place (λ (view : View). view.noted) grown there.0 from.1 there.1 from.3
 
       down : are_noted grown ≡ true → are_noted views ≡ true
       down h =
-          let from = some_of (λ (view : View). view.noted) grown h in
+          let from = any_place (λ (view : View). view.noted) grown h in
           ⊎_elim
-          (λ led. any_get (λ (view : View). view.noted) views led.0 from.1 led.1 from.3)
+          (λ led. any_passes_from_place (λ (view : View). view.noted) views led.0 from.1 led.1 from.3)
           (λ fresh. sym (recovered_noted fresh.old group sequence views timestamp fresh.can) ∙ ap (λ (view : View). view.noted) fresh.is_view ∙ from.3)
           (are.each from.0 from.1 from.2)
 
@@ -309,13 +307,13 @@ module _ (group : List ℕ) (sequence timestamp : ℕ) (leaders : List DiskCopy)
       ∙ ap (λ (b : Bool). is_associated (elements_in views) reference row.guid || (not (are_noted views) && b && all)) names.some
       ∙ dedicated_test (is_associated (elements_in views) reference row.guid) (are_noted views) (is_some (naming_record (elements_in views) row.guid)) (list_any (names_array reference row.guid) views) all
       (λ h.
-      let from = some_of (names_array reference row.guid) views h in
+      let from = any_place (names_array reference row.guid) views h in
       let there = are.all from.0 from.1 from.2 in
-      any_get (names_array reference row.guid) grown there.0 from.1 there.1 from.3)
+      any_passes_from_place (names_array reference row.guid) grown there.0 from.1 there.1 from.3)
       (λ h.
-      let from = some_of (names_array reference row.guid) grown h in
+      let from = any_place (names_array reference row.guid) grown h in
       ⊎_elim
-      (λ led. inl (any_get (names_array reference row.guid) views led.0 from.1 led.1 from.3))
+      (λ led. inl (any_passes_from_place (names_array reference row.guid) views led.0 from.1 led.1 from.3))
       (λ fresh. inr (recovered_dedicated fresh.old group sequence views timestamp reference row (subst (λ (view : View). names_array reference row.guid view ≡ true) (sym fresh.is_view) from.3)))
       (are.each from.0 from.1 from.2))
 

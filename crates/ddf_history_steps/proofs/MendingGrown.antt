@@ -1,6 +1,7 @@
 -- The leaders once copies were written to seats: those that led, and the new copies among them.
 use Rattle.std.proofs.Common.{◌≡◌, ◌⊎◌, ℕ, zero, suc, ◌==◌, ◌&&◌, not, Bool, true, false, List, [], ◌∷◌, ◌++◌, if◌then◌else◌, Some, slice_get, refl, sym, ap, ◌∙◌, inl, inr, ⊎_elim, subst}
 use Rattle.std.proofs.lemmas.Bool.{and_parts, eqb-true, true≢false}
+use Rattle.ddf_lemmas.proofs.Lists.{first_get, in_second}
 use Rattle.ddf_history.specs.Reading.{Reading, Scene, Shown, IsCopyOf, IsSound, stands}
 use Rattle.ddf_history.specs.Reading.Shown.{Nothing, One, Differ}
 use Rattle.ddf_history.specs.Issued.{Past, IsSince, is_away, take_off}
@@ -9,7 +10,7 @@ use Rattle.ddf_history.specs.Promise.{IsKept}
 use Rattle.ddf_history.specs.Steps.{AreWritten, IsPart, MayWrite}
 use Rattle.ddf_history.specs.Calls.{IsAssembled, AreSure, NoneAbsent}
 use Rattle.ddf_history.proofs.Since.{which}
-use Rattle.ddf_history_steps.proofs.MendingLists.{either_list, in_left, in_right}
+use Rattle.ddf_history_steps.proofs.MendingLists.{either_list}
 use Rattle.ddf_history_steps.proofs.MendingPlaces.{IsPlace, place_get}
 use Rattle.ddf_history_steps.proofs.MendingLeaders.{IsShowing, one_is, leads_showing, stands_showing}
 
@@ -70,8 +71,8 @@ module _ (r : Reading) (n : ℕ) (one other : Scene r.Copy) (IsNew : r.Copy → 
   pub each_grown : ((s : ℕ) → IsGrown s) → (slots k : ℕ) (copy : r.Copy) → slice_get (leading_copies r n other slots) k ≡ Some copy → ((m : ℕ) × (slice_get (leading_copies r n one slots) m ≡ Some copy)) ⊎ IsNew copy
   each_grown grown zero k copy is = absurd cc
   each_grown grown (suc slots) k copy is = ⊎_elim
-      (λ before. ⊎_elim (λ led. inl (led.0, in_left (leading_copies r n one slots) (leading_copy r n (one slots)) led.0 copy led.1)) inr (each_grown grown slots k copy before))
-      (λ last. ⊎_elim (λ led. inl (in_right (leading_copies r n one slots) (leading_copy r n (one slots)) last.0 copy led)) inr (slot_grown slots (grown slots) last.0 copy last.1))
+      (λ before. ⊎_elim (λ led. inl (led.0, first_get (leading_copies r n one slots) (leading_copy r n (one slots)) led.0 copy led.1)) inr (each_grown grown slots k copy before))
+      (λ last. ⊎_elim (λ led. inl (in_second (leading_copies r n one slots) (leading_copy r n (one slots)) last.0 copy led)) inr (slot_grown slots (grown slots) last.0 copy last.1))
       (either_list (leading_copies r n other slots) (leading_copy r n (other slots)) k copy is)
 
   -- what led in a slot leads there
@@ -83,8 +84,8 @@ module _ (r : Reading) (n : ℕ) (one other : Scene r.Copy) (IsNew : r.Copy → 
   pub all_lead : ((s : ℕ) → IsGrown s) → (slots m : ℕ) (copy : r.Copy) → slice_get (leading_copies r n one slots) m ≡ Some copy → (k : ℕ) × (slice_get (leading_copies r n other slots) k ≡ Some copy)
   all_lead grown zero m copy is = absurd cc
   all_lead grown (suc slots) m copy is = ⊎_elim
-      (λ before. let led = all_lead grown slots m copy before in (led.0, in_left (leading_copies r n other slots) (leading_copy r n (other slots)) led.0 copy led.1))
-      (λ last. in_right (leading_copies r n other slots) (leading_copy r n (other slots)) last.0 copy (slot_leads slots (grown slots) last.0 copy last.1))
+      (λ before. let led = all_lead grown slots m copy before in (led.0, first_get (leading_copies r n other slots) (leading_copy r n (other slots)) led.0 copy led.1))
+      (λ last. in_second (leading_copies r n other slots) (leading_copy r n (other slots)) last.0 copy (slot_leads slots (grown slots) last.0 copy last.1))
       (either_list (leading_copies r n one slots) (leading_copy r n (one slots)) m copy is)
 
 -- ---- copies are written to seats

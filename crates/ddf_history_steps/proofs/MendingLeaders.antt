@@ -10,18 +10,9 @@ use Rattle.ddf_history.specs.Answer.{IsClaimed}
 use Rattle.ddf_history.specs.Steps.{IsLast}
 use Rattle.ddf_history.specs.Calls.{IsAssembled, AreSure, NoneAbsent}
 use Rattle.ddf_history.proofs.Since.{which, first_is_copy, in_order, same_sequence_same, last_since, on_copy, on_shows}
-use Rattle.ddf_history.proofs.Assembling.{read_as}
+use Rattle.ddf_history.proofs.Assembling.{read_as, seen_at}
 use Rattle.ddf_history.proofs.Calls.{cut_none_absent, last_cut}
-
--- A copy that is seen is one of a slot that is read.
-seen_there : {A : Type 0} (b : Bool) (shown : Shown A) (copy : A) → IsCopyOf (if b then shown else Nothing) copy → (b ≡ true) × IsCopyOf shown copy
-seen_there true shown copy is = (refl, is)
-seen_there false shown copy is = absurd is
-
--- So is the one by which its disk is known.
-first_there : {A : Type 0} (b : Bool) (shown : Shown A) (copy : A) → IsFirstOf (if b then shown else Nothing) copy → (b ≡ true) × IsFirstOf shown copy
-first_there true shown copy is = (refl, is)
-first_there false shown copy is = absurd is
+use Rattle.ddf_history_steps.proofs.TheoryClaimed.{seen_first}
 
 -- A single copy is one thing.
 pub one_is : {A : Type 0} (x y : A) → One x ≡ One y → x ≡ y
@@ -77,7 +68,7 @@ module _ (r : Reading) (sound : IsSound r) (past : Past r) (held scene : Scene r
       let is = read_as r sound past held assembled.is_kept readable assembled.may_read assembled.member c assembled.is_read in
       let leader = assembled.is_read.leader in
       let leading = assembled.is_read.leading in
-      let there = seen_there (readable leader) (held leader) leading assembled.is_read.leads.is_copy in
+      let there = seen_at (readable leader) (held leader) leading assembled.is_read.leads.is_copy in
       let copy_is = on_copy (past.disk leader) (held leader) is.4 leading there.1 in
       let shows = on_shows (past.disk leader) (held leader) is.4 leading there.1 in
       let one = sound.same_sequence leading is.4.config shows in
@@ -111,7 +102,7 @@ module _ (r : Reading) (sound : IsSound r) (past : Past r) (held scene : Scene r
   -- A claimed slot is a seat.
   pub seat_of : (s : ℕ) (copy : r.Copy) → IsClaimed r read_scene s copy → IsSeat r past held scene readable j c s copy
   seat_of s copy claimed =
-      let first = first_there (readable s) (held s) copy claimed.is_first in
+      let first = seen_first (readable s) (held s) copy claimed.is_first in
       let now = claims_member s copy claimed in
       let names = assembled.is_kept.named s copy (first_is_copy (held s) copy first.1) (inr (j, c, at, now)) in
       let member : r.has_current c (past.disk s) ≡ true = ap (r.has_current c) (sym names) ∙ now in
@@ -150,7 +141,7 @@ module _ (r : Reading) (sound : IsSound r) (past : Past r) (held scene : Scene r
   leader_stays s copy is stand same = elim (which (past.returned s)) [
     | inr stays ↦ stays
     | inl back ↦
-        let there = seen_there (readable s) (held s) copy is in
+        let there = seen_at (readable s) (held s) copy is in
         let names = assembled.is_kept.named s copy there.1 (inl (record { copy = copy; is_copy = there.1; is_standing = stand })) in
         let leading = assembled.is_read.leading in
         let misses : r.lists_missing leading (r.disk_of copy) ≡ true = sound.same_missing leading c (r.disk_of copy) lowest_led.shows ∙ ap (r.has_missing c) names ∙ kept.gone s j c back at in
@@ -172,7 +163,7 @@ module _ (r : Reading) (sound : IsSound r) (past : Past r) (held scene : Scene r
   -- A slot that was read to lead shows the configuration.
   pub leads_showing : (s : ℕ) (copy : r.Copy) → IsCopyOf (read_scene s) copy → stands r copy ≡ true → r.sequence_of copy ≡ r.sequence c → IsShowing r past held scene readable j c s copy
   leads_showing s copy is stand same =
-      let there = seen_there (readable s) (held s) copy is in
+      let there = seen_at (readable s) (held s) copy is in
       let here : is_away past s ≡ false = or_from _ _ (assembled.may_read.not_lost s there.0) (leader_stays s copy is stand same) in
       let on = on_this held assembled.is_kept s copy here there.1 stand same in
       let member : r.has_current c (past.disk s) ≡ true = ap (λ (x : r.Config). r.has_current x (past.disk s)) (sym on.1) ∙ on.0.is_member in

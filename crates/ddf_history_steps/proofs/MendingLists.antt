@@ -1,24 +1,11 @@
 -- Items of lists.
-use Rattle.std.proofs.Common.{◌≡◌, ◌⊎◌, ℕ, zero, suc, ◌<◌, ◌||◌, Bool, true, false, List, [], ◌∷◌, ◌++◌, map, if◌then◌else◌, Some, slice_get, refl, ap, ◌∙◌, inl, inr, ⊎_elim, arith}
-use Rattle.std.proofs.lemmas.Bool.{false≢true}
-use Rattle.std.specs.List.{list_any}
+use Rattle.std.proofs.Common.{◌≡◌, ◌⊎◌, ℕ, zero, suc, ◌<◌, Bool, true, false, List, [], ◌∷◌, ◌++◌, map, if◌then◌else◌, Some, slice_get, refl, ap, inl, inr, ⊎_elim, arith}
 
 -- An element of two lists is one of the first, or of the second.
 pub either_list : {A : Type 0} (xs ys : List A) (k : ℕ) (x : A) → slice_get (xs ++ ys) k ≡ Some x → (slice_get xs k ≡ Some x) ⊎ ((i : ℕ) × (slice_get ys i ≡ Some x))
 either_list [] ys k x e = inr (k, e)
 either_list (y ∷ xs) ys zero x e = inl e
 either_list (y ∷ xs) ys (suc k) x e = either_list xs ys k x e
-
--- An element of the first of two lists is one of both.
-pub in_left : {A : Type 0} (xs ys : List A) (k : ℕ) (x : A) → slice_get xs k ≡ Some x → slice_get (xs ++ ys) k ≡ Some x
-in_left [] ys k x e = absurd cc
-in_left (y ∷ xs) ys zero x e = e
-in_left (y ∷ xs) ys (suc k) x e = in_left xs ys k x e
-
--- So is one of the second.
-pub in_right : {A : Type 0} (xs ys : List A) (i : ℕ) (x : A) → slice_get ys i ≡ Some x → (k : ℕ) × (slice_get (xs ++ ys) k ≡ Some x)
-in_right [] ys i x e = (i, e)
-in_right (y ∷ xs) ys i x e = let rest = in_right xs ys i x e in (suc rest.0, rest.1)
 
 -- Two elements of two lists, in order, stand both in the first, both in the second, or one in each.
 pub two_of : {A : Type 0} (xs ys : List A) (i k : ℕ) (x y : A) → i < k → slice_get (xs ++ ys) i ≡ Some x → slice_get (xs ++ ys) k ≡ Some y
@@ -33,27 +20,6 @@ pub chosen_get : {A : Type 0} (x y : A) (b : Bool) (i : ℕ) → slice_get (if b
 chosen_get x y true zero e = (refl, refl, cc)
 chosen_get x y true (suc i) e = absurd cc
 chosen_get x y false i e = absurd cc
-
--- One item that passes is enough.
-pub any_get : {A : Type 0} (test : A → Bool) (xs : List A) (k : ℕ) (x : A) → slice_get xs k ≡ Some x → test x ≡ true → list_any test xs ≡ true
-any_get test [] k x at passes = absurd cc
-any_get test (y ∷ xs) zero x at passes =
-    let same : y ≡ x = cc in
-    ap (λ (b : Bool). b || list_any test xs) (ap test same ∙ passes)
-any_get test (y ∷ xs) (suc k) x at passes = ap (λ (b : Bool). test y || b) (any_get test xs k x at passes) ∙ or_true (test y)
-  where
-    or_true : (b : Bool) → (b || true) ≡ true
-    or_true true = refl
-    or_true false = refl
-
--- Where some item passes there is one.
-pub some_of : {A : Type 0} (test : A → Bool) (xs : List A) → list_any test xs ≡ true → (k : ℕ) × (x : A) × (slice_get xs k ≡ Some x) × (test x ≡ true)
-some_of test [] h = absurd (false≢true h)
-some_of {A = A} test (x ∷ xs) h = go (some_of test xs) (test x) refl h
-  where
-    go : (list_any test xs ≡ true → (k : ℕ) × (y : A) × (slice_get xs k ≡ Some y) × (test y ≡ true)) → (b : Bool) → test x ≡ b → (b || list_any test xs) ≡ true → (k : ℕ) × (y : A) × (slice_get (x ∷ xs) k ≡ Some y) × (test y ≡ true)
-    go later true e h = (0, x, refl, e)
-    go later false e h = let rest = later h in (suc rest.0, rest.1, rest.2, rest.3)
 
 -- Items that stay are the same.
 pub map_stays : {A : Type 0} (xs : List A) → xs ≡ map (λ x. x) xs

@@ -1,10 +1,11 @@
 -- The leaders' copies, and the slots that show them.
 use Rattle.std.proofs.Common.{◌≡◌, ℕ, zero, suc, ◌<◌, ◌==◌, ◌&&◌, Bool, true, List, [], ◌∷◌, if◌then◌else◌, Some, slice_get, refl, sym, ap, ◌∙◌, inl, inr, ⊎_elim, arith}
 use Rattle.std.proofs.lemmas.Bool.{cases_eq, and_parts, and_from, eqb-true, eq-eqb}
+use Rattle.ddf_lemmas.proofs.Lists.{first_get, in_second}
 use Rattle.ddf_history.specs.Reading.{Reading, Scene, Shown, stands}
 use Rattle.ddf_history.specs.Reading.Shown.{Nothing, One, Differ}
 use Rattle.ddf_history.specs.Leaders.{leading_copy, leading_copies}
-use Rattle.ddf_history_steps.proofs.MendingLists.{chosen_get, either_list, in_left, in_right, two_of}
+use Rattle.ddf_history_steps.proofs.MendingLists.{chosen_get, either_list, two_of}
 
 module _ (r : Reading) (n : ℕ) where
   -- a slot shows a leader's copy
@@ -55,8 +56,8 @@ module _ (r : Reading) (n : ℕ) where
   of_place scene (suc slots) slot copy less place = elim (cases_eq slot slots) [
     | inl same ↦
         let here : leading_copy r n (scene slots) ≡ copy ∷ [] = ap (λ (s : ℕ). leading_copy r n (scene s)) (sym same) ∙ place_get scene slot copy place in
-        in_right (leading_copies r n scene slots) (leading_copy r n (scene slots)) 0 copy (ap (λ (xs : List r.Copy). slice_get xs 0) here)
+        in_second (leading_copies r n scene slots) (leading_copy r n (scene slots)) 0 copy (ap (λ (xs : List r.Copy). slice_get xs 0) here)
     | inr differ ↦
         let rest = of_place scene slots slot copy (omega arith) place in
-        (rest.0, in_left (leading_copies r n scene slots) (leading_copy r n (scene slots)) rest.0 copy rest.1)
+        (rest.0, first_get (leading_copies r n scene slots) (leading_copy r n (scene slots)) rest.0 copy rest.1)
   ]

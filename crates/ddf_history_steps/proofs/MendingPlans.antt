@@ -4,6 +4,7 @@ use Rattle.std.proofs.lemmas.Bool.{and_parts}
 use Rattle.std.specs.Prelude.{slice_get, nat_eq}
 use Rattle.std.specs.Option.{option_map_or}
 use Rattle.std.specs.List.{enumerate_from, list_all, range_with_len}
+use Rattle.ddf_lemmas.proofs.Lists.{list_all_read, mapped_at}
 use Rattle.ddf_tables.specs.declared.disks.DiskEntry.{DiskEntry}
 use Rattle.ddf_tables.specs.declared.arrays.ArrayEntry.{ArrayEntry}
 use Rattle.ddf_config_records.specs.ElementValue.{ElementValue}
@@ -16,17 +17,12 @@ use Rattle.ddf_view.specs.Shows.{gives_element, gives_elements, gives_if_held, g
 use Rattle.ddf_view.specs.View.{HeldRecord, View, find_disk, find_held, has_bit}
 use Rattle.ddf_view.proofs.Agreement.{shown_from}
 use Rattle.ddf_view.proofs.Finds.{list_all_at}
-use Rattle.ddf_view.proofs.Shown.{plan_same}
+use Rattle.ddf_view.proofs.Shown.{plan_same, make_plan, make_position}
 use Rattle.ddf_rewrite.proofs.Holdings.{AreSame}
-use Rattle.ddf_rewrite.proofs.Lists.{get_map, get_range, list_all_get}
+use Rattle.ddf_rewrite.proofs.Lists.{get_range}
 use Rattle.ddf_history_steps.proofs.MendingReading.{KeepsDisk}
 
 -- ---- the plan of a record
-
--- a plan by its parts
-make_plan : (level qualifier strip blocks stand_in : ℕ) → List Position → ElementPlan
-make_plan level qualifier strip blocks stand_in positions =
-    record { level = level; qualifier = qualifier; strip = strip; blocks = blocks; stand_in = stand_in; positions = positions }
 
 -- Records with the same fields give one plan.
 pub plan_alike : (disks : List DiskEntry) (given : Option SlotNote) (one other : ElementValue) → AreSame one other → plan_of disks given one ≡ plan_of disks given other
@@ -42,11 +38,6 @@ plan_alike disks given one other same =
     ≡ make_plan other.level other.qualifier other.strip other.blocks (stand_in_of given) (map (λ pair. position_of disks given pair.0 pair.1) (enumerate_from 0 other.members)) = rw (level, qualifier, strip, blocks, positions) refl in
     made
 
--- With a note the states of the disks don't count.
-pub plan_anywhere : (disks : List DiskEntry) (given : SlotNote) (element : ElementValue) → plan_of disks (Some given) element ≡ plan_of [] (Some given) element
-unfolding plan_of
-plan_anywhere disks given element = refl
-
 -- A disk is as good by an entry that is made of its own.
 good_made : (made : DiskEntry → DiskEntry) → KeepsDisk made → (reference : ℕ) (disks : List DiskEntry) → option_map_or is_good (find_disk reference (map made disks)) false ≡ option_map_or is_good (find_disk reference disks) false
 good_made made keeps reference [] = refl
@@ -60,10 +51,6 @@ good_made made keeps reference (disk ∷ disks) = go (good_made made keeps refer
     go rest false e =
         let here : nat_eq (made disk).reference reference ≡ false = ap (λ (n : ℕ). nat_eq n reference) (keeps.reference disk) ∙ e in
         rw (e, here) rest
-
--- a position by its parts
-make_position : (reference start : ℕ) (synced : Bool) (row : ℕ) → Position
-make_position reference start synced row = record { reference = reference; start = start; synced = synced; row = row }
 
 -- So each position is told alike.
 positions_made : (made : DiskEntry → DiskEntry) → KeepsDisk made → (disks : List DiskEntry) (n : ℕ) (members : List Place)
@@ -93,7 +80,7 @@ pub noted_gives : (group : List ℕ) (sequence : ℕ) (views : List View) (view 
 unfolding read
 noted_gives group sequence views view h a row at i plan there held given found has =
     let entry = array_entry_in views row in
-    let all = list_all_get (gives_elements view.elements) (map (array_entry_in views) (arrays_in views)) a entry (shown_from (read group sequence views) view h).elements (get_map (array_entry_in views) (arrays_in views) a row at) in
+    let all = list_all_read (gives_elements view.elements) (map (array_entry_in views) (arrays_in views)) a entry (shown_from (read group sequence views) view h).elements (mapped_at (array_entry_in views) (arrays_in views) a row at) in
     let each = (and_parts (gives_numbers view.elements entry) (list_all (gives_if_held view.elements entry.0) (enumerate_from 0 entry.1.elements)) all).1 in
     let here : 0 + i ≡ i = omega arith in
     let one : gives_if_held view.elements row.guid (i, Some plan) ≡ true = subst (λ (n : ℕ). gives_if_held view.elements row.guid (n, Some plan) ≡ true) here (list_all_at (gives_if_held view.elements row.guid) 0 entry.1.elements i (Some plan) each there) in
@@ -107,4 +94,4 @@ unfolding array_in
 element_at disks elements row i lt =
     let place = get_range 0 (count_in elements row.guid) i lt in
     let here : place.0 ≡ i = place.1 ∙ omega arith in
-    get_map (element_in disks elements row.guid) (range_with_len 0 (count_in elements row.guid)) i place.0 place.2 ∙ ap (λ (n : ℕ). Some (element_in disks elements row.guid n)) here
+    mapped_at (element_in disks elements row.guid) (range_with_len 0 (count_in elements row.guid)) i place.0 place.2 ∙ ap (λ (n : ℕ). Some (element_in disks elements row.guid n)) here

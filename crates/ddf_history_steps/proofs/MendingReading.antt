@@ -1,21 +1,20 @@
 -- Two lists of views give one configuration where what is read of them is alike.
-use Rattle.std.proofs.Common.{◌≡◌, ℕ, suc, ◌<◌, ◌||◌, Bool, true, false, List, [], ◌∷◌, map, Option, Some, None, refl, ap, ◌∙◌, arith}
+use Rattle.std.proofs.Common.{◌≡◌, ℕ, ◌<◌, ◌||◌, Bool, true, false, List, [], ◌∷◌, map, Option, Some, None, refl, ap, ◌∙◌, arith}
 use Rattle.std.proofs.lemmas.Simd.{map-map}
 use Rattle.std.specs.Prelude.{slice_get, filter, filter_map, is_some, nat_eq}
 use Rattle.std.specs.Option.{option_map_or, option_or}
 use Rattle.std.specs.List.{cons_option, list_any, range_with_len}
+use Rattle.ddf_lemmas.proofs.Lists.{map_alike, range_get}
 use Rattle.ddf_bytes.specs.Choices.{first_of}
 use Rattle.ddf_tables.specs.declared.disks.DiskEntry.{DiskEntry}
 use Rattle.ddf_tables.specs.declared.arrays.ArrayEntry.{ArrayEntry}
-use Rattle.ddf_config.specs.Configuration.{Configuration}
 use Rattle.ddf_config.specs.ElementValue.{ElementValue as ElementPlan}
-use Rattle.ddf_config.specs.declared.array.Array.{Array}
 use Rattle.ddf_config.specs.declared.member.Member.{Member}
 use Rattle.ddf_config.specs.declared.member.SpareUse.{SpareUse}
 use Rattle.ddf_view.specs.Reading.{array_entry_in, array_in, arrays_in, count_in, dedicated_or_not, disks_in, element_in, elements_in, is_associated, is_dedicated, member_entry_in, naming_record, read, secondary_in, spare_in, spare_of_kind}
 use Rattle.ddf_view.specs.View.{HeldRecord, View, find_held, has_bit, is_missing}
+use Rattle.ddf_view.proofs.Agreement.{make_array, make_config, make_member}
 use Rattle.ddf_rewrite.proofs.Holdings.{AreSame}
-use Rattle.ddf_rewrite.proofs.ReadCan.{range_get}
 
 -- ---- records that say the same
 
@@ -131,14 +130,6 @@ pub record TellAlike (views grown : List View) : Type 0 where
 
 -- ---- lists
 
--- Lists are the same that are made alike of each item.
-pub map_at : {X Y : Type 0} (one other : X → Y) (xs : List X) → ((a : ℕ) (x : X) → slice_get xs a ≡ Some x → one x ≡ other x) → map one xs ≡ map other xs
-map_at one other [] same = refl
-map_at one other (x ∷ xs) same =
-    let first = same 0 x refl in
-    let rest = map_at one other xs (λ a y at. same (suc a) y at) in
-    rw (first, rest) refl
-
 -- The names of rows that pass are the same, where rows are made of others with their names.
 names_alike : (one other : ArrayEntry → Bool) (made : ArrayEntry → ArrayEntry) → ((row : ArrayEntry) → (made row).guid ≡ row.guid) → (rows : List ArrayEntry) → ((row : ArrayEntry) → one (made row) ≡ other row)
     → map (λ row. row.guid) (filter one (map made rows)) ≡ map (λ row. row.guid) (filter other rows)
@@ -151,16 +142,6 @@ names_alike one other made name (row ∷ rows) same = go (names_alike one other 
     go rest false is e = let here : one (made row) ≡ false = is ∙ e in rw (here, e) rest
 
 -- ---- the configuration
-
--- the values by their parts, so that one part can be exchanged
-make_array : (name : List ℕ) (number secondary : ℕ) (elements : List (Option ElementPlan)) (state init : ℕ) → Array
-make_array name number secondary elements state init = record { name = name; number = number; secondary = secondary; elements = elements; state = state; init = init }
-
-make_member : (guid : List ℕ) (size : ℕ) (missing : Bool) (spare : SpareUse) → Member
-make_member guid size missing spare = record { guid = guid; size = size; missing = missing; spare = spare }
-
-make_config : (group : List ℕ) (sequence : ℕ) (members : List (ℕ × Member)) (arrays : List (List ℕ × Array)) → Configuration
-make_config group sequence members arrays = record { group = group; sequence = sequence; members = members; arrays = arrays }
 
 pair_of : {X Y : Type 0} → X → Y → X × Y
 pair_of x y = (x, y)
@@ -181,7 +162,7 @@ module _ (views grown : List View) (tell : TellAlike views grown) where
       let elements : map (element_in (disks_in grown) (elements_in grown) made.guid) (range_with_len 0 (count_in (elements_in grown) made.guid)) ≡ map (element_in (disks_in views) (elements_in views) row.guid) (range_with_len 0 (count_in (elements_in views) row.guid)) =
       ap (λ (g : List ℕ). map (element_in (disks_in grown) (elements_in grown) g) (range_with_len 0 (count_in (elements_in grown) g))) guid
       ∙ ap (λ (n : ℕ). map (element_in (disks_in grown) (elements_in grown) row.guid) (range_with_len 0 n)) names.count
-      ∙ map_at (element_in (disks_in grown) (elements_in grown) row.guid) (element_in (disks_in views) (elements_in views) row.guid) (range_with_len 0 (count_in (elements_in views) row.guid))
+      ∙ map_alike (element_in (disks_in grown) (elements_in grown) row.guid) (element_in (disks_in views) (elements_in views) row.guid) (range_with_len 0 (count_in (elements_in views) row.guid))
       (λ k i there. let place = range_get 0 (count_in (elements_in views) row.guid) k i there in tell.plans a row at i (omega (arith, place.0, place.1))) in
       let same : make_array made.name made.number (secondary_in (elements_in grown) made.guid) (map (element_in (disks_in grown) (elements_in grown) made.guid) (range_with_len 0 (count_in (elements_in grown) made.guid))) made.state made.init
       ≡ make_array row.name row.number (secondary_in (elements_in views) row.guid) (map (element_in (disks_in views) (elements_in views) row.guid) (range_with_len 0 (count_in (elements_in views) row.guid))) row.state row.init =
@@ -199,7 +180,7 @@ module _ (views grown : List View) (tell : TellAlike views grown) where
   arrays_alike =
       ap (map (array_entry_in grown)) tell.arrays
       ∙ map-map (array_entry_in grown) tell.array_made (arrays_in views)
-      ∙ map_at (λ row. array_entry_in grown (tell.array_made row)) (array_entry_in views) (arrays_in views) (λ a row at.
+      ∙ map_alike (λ row. array_entry_in grown (tell.array_made row)) (array_entry_in views) (arrays_in views) (λ a row at.
       let made : pair_of (tell.array_made row).guid (array_in (disks_in grown) (elements_in grown) (tell.array_made row)) ≡ pair_of row.guid (array_in (disks_in views) (elements_in views) row) =
       ap (λ (g : List ℕ). pair_of g (array_in (disks_in grown) (elements_in grown) (tell.array_made row))) (tell.keeps_array.guid row) ∙ ap (pair_of row.guid) (array_alike a row at) in
       made)
@@ -233,7 +214,7 @@ module _ (views grown : List View) (tell : TellAlike views grown) where
   members_alike =
       ap (map (member_entry_in grown)) tell.disks
       ∙ map-map (member_entry_in grown) tell.disk_made (disks_in views)
-      ∙ map_at (λ disk. member_entry_in grown (tell.disk_made disk)) (member_entry_in views) (disks_in views) (λ a disk at.
+      ∙ map_alike (λ disk. member_entry_in grown (tell.disk_made disk)) (member_entry_in views) (disks_in views) (λ a disk at.
       let made = tell.disk_made disk in
       let missing : is_missing made ≡ is_missing disk = ap (λ (n : ℕ). has_bit n 1 || has_bit n 6) (tell.keeps_disk.state disk) in
       let same : pair_of made.reference (make_member made.guid made.size (is_missing made) (spare_in grown made)) ≡ pair_of disk.reference (make_member disk.guid disk.size (is_missing disk) (spare_in views disk)) =

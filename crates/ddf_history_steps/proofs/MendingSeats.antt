@@ -4,6 +4,8 @@ use Rattle.std.proofs.lemmas.Bool.{and_from, and_parts, eqb-true, false≢true}
 use Rattle.std.specs.List.{AllByRecursion, IsDistinct}
 use Rattle.std.specs.Str.{bytes_eq}
 use Rattle.std.specs.Cmp.Lexicographic.{pointwise}
+use Rattle.std.proofs.lemmas.Map.Keys.{any_passes_from_place}
+use Rattle.ddf_lemmas.proofs.Lists.{bytes_same, in_map, mapped_at}
 use Rattle.ddf_tables.specs.declared.disks.DiskEntry.{DiskEntry}
 use Rattle.ddf_tables.specs.declared.arrays.ArrayEntry.{ArrayEntry}
 use Rattle.ddf_config.specs.Configuration.{Configuration}
@@ -18,13 +20,12 @@ use Rattle.ddf_view.specs.Shows.{gives_array, gives_member, same_flag, shows, sh
 use Rattle.ddf_view.specs.Differ.{difference}
 use Rattle.ddf_view.proofs.Agreement.{shown_from, fully_from}
 use Rattle.ddf_view.proofs.Names.{names_differ}
-use Rattle.ddf_view.proofs.Tests.{and_five, and_four, bytes_same, same_bytes}
+use Rattle.ddf_view.proofs.Tests.{and_five, and_four, same_bytes}
 use Rattle.ddf_rewrite.specs.Before.{Before, before}
 use Rattle.ddf_rewrite.specs.Copies.{recovered_copy}
 use Rattle.ddf_rewrite.specs.Hold.{CanBeRecovered, DoAgree}
 use Rattle.ddf_rewrite.proofs.Agreed.{recovered_agree}
 use Rattle.ddf_rewrite.proofs.AgreedLeaders.{copies_agreed}
-use Rattle.ddf_rewrite.proofs.Lists.{get_map, map_get}
 use Rattle.ddf_rewrite.proofs.Recovered.{recovered_fully, recovered_has_notes, recovered_shows}
 use Rattle.ddf_rewrite.proofs.Writable.{recovered_copy_can}
 use Rattle.ddf_history.specs.Reading.{Scene, Shown, IsCopyOf}
@@ -38,7 +39,6 @@ use Rattle.ddf_history.specs.Steps.{MayWrite}
 use Rattle.ddf_history.specs.Calls.{IsAssembled, AreSure, NoneAbsent}
 use Rattle.ddf_history.proofs.Since.{first_is_copy}
 use Rattle.ddf_history.proofs.Sound.{groups_are_sound}
-use Rattle.ddf_history_steps.proofs.MendingLists.{any_get}
 use Rattle.ddf_history_steps.proofs.MendingPlaces.{IsPlace, of_place, place_of, places_of}
 use Rattle.ddf_history_steps.proofs.MendingLeaders.{IsSeat, IsShowing, cut_last, leads_showing, lowest_showing, seat_of, showing_agree, showing_below, stands_showing}
 
@@ -91,7 +91,7 @@ unfolding recovered_copy view_of
 recovered_names old leaders config timestamp = refl
 
 -- It is of the configuration's group.
-recovered_group : (old : DiskCopy) (leaders : Before) (config : Configuration) (timestamp : ℕ) → (view_of (recovered_copy old leaders config timestamp)).group ≡ config.group
+pub recovered_group : (old : DiskCopy) (leaders : Before) (config : Configuration) (timestamp : ℕ) → (view_of (recovered_copy old leaders config timestamp)).group ≡ config.group
 unfolding recovered_copy view_of
 recovered_group old leaders config timestamp = refl
 
@@ -136,7 +136,7 @@ module _ {group : List ℕ} (past : Past (groups group)) (held scene : Scene Vie
   showing_leader s view shown =
       let below = showing_below (groups group) (groups_are_sound group) past held scene readable j config assembled since kept sure none_absent s view shown in
       let place = of_place (groups group) config.sequence (seen readable held) past.slots s view below (record { is_only = shown.is_held; is_standing = shown.is_standing; same = shown.same }) in
-      let from = map_get view_of leaders place.0 view (ap (λ (xs : List View). slice_get xs place.0) are_leaders ∙ place.1) in
+      let from = in_map view_of leaders place.0 view (ap (λ (xs : List View). slice_get xs place.0) are_leaders ∙ place.1) in
       (place.0, from.0, from.1, from.2)
 
   -- what a place shows shows the configuration
@@ -168,10 +168,10 @@ module _ {group : List ℕ} (past : Past (groups group)) (held scene : Scene Vie
   leaders_noted own =
       let from = showing_leader assembled.is_read.leader assembled.is_read.leading lowest in
       let at : slice_get views from.0 ≡ Some assembled.is_read.leading = get_view from.0 from.1 from.2 ∙ ap (λ (v : View). Some v) from.3 in
-      any_get (λ (view : View). view.noted) views from.0 assembled.is_read.leading at (fully_from config assembled.is_read.leading (lowest.is_full own).fully).noted
+      any_passes_from_place (λ (view : View). view.noted) views from.0 assembled.is_read.leading at (fully_from config assembled.is_read.leading (lowest.is_full own).fully).noted
     where
       get_view : (k : ℕ) (leader : DiskCopy) → slice_get leaders k ≡ Some leader → slice_get views k ≡ Some (view_of leader)
-      get_view k leader at = get_map view_of leaders k leader at
+      get_view k leader at = mapped_at view_of leaders k leader at
 
   -- ---- one seat
 

@@ -3,6 +3,8 @@ use Rattle.std.proofs.Common.{◌≡◌, ◌∙◌, ℕ, ◌<◌, ◌≤◌, if�
 use Rattle.std.proofs.lemmas.Bool.{cases_lt}
 use Rattle.std.proofs.Math.Path.{fun_ext}
 use Rattle.std.specs.Prelude.{slice_get}
+use Rattle.std.proofs.lemmas.Option.{same_Some}
+use Rattle.ddf_lemmas.proofs.Lists.{some_at_place}
 use Rattle.ddf_bay.specs.Sectors.{Image}
 use Rattle.ddf_bay.specs.State.{BayState, size_of}
 use Rattle.ddf_header.specs.declared.geometry.Geometry.{Geometry}
@@ -24,14 +26,11 @@ use Rattle.ddf_update.specs.declared.prepared.Prepared.{Prepared}
 use Rattle.ddf_update.specs.Changes.{IsGetting, IsLeftChangingAll, MayChangeAll, MayGet, SlotChange}
 use Rattle.ddf_update.specs.Prepared.{writes_anchor}
 use Rattle.ddf_update.specs.Update.{AreBoth, IsAdopting, IsChanging, IsMoving, IsReadAdopting, MayAdopt, MayChange}
-use Rattle.ddf_view.proofs.Finds.{place_there, place_within}
+use Rattle.ddf_view.proofs.Finds.{place_within}
 use Rattle.ddf_seats.specs.Group.{floor_of}
 use Rattle.ddf_history_steps.specs.Floors.{HasFloor}
 
-some_same : {X : Type 0} (one other : X) → Some one ≡ Some other → one ≡ other
-some_same one other e = cc
-
-same_ok : {E : Type 0} (one other : Header) → ◌≡◌ {A = Result Header E} (Ok one) (Ok other) → one ≡ other
+pub same_ok : {E : Type 0} (one other : Header) → ◌≡◌ {A = Result Header E} (Ok one) (Ok other) → one ≡ other
 same_ok one other e = cc
 
 -- Copies that stand in the same places, with the same sections, have one floor.
@@ -72,8 +71,8 @@ both_floor : (size : ℕ) (sector : ℕ → List ℕ) (anchor : Header) (copy : 
     → HasFloor size sector floor
 both_floor size sector anchor copy floor both same behind within = record {
   same_floor = λ newest stands here is.
-      let level : newest ≡ newests.Level (written_as copy Primary) = some_same newest (newests.Level (written_as copy Primary)) (sym here ∙ read_there size sector anchor both.is_anchored ∙ ap Some both.are_level) in
-      let own : written_as copy Primary ≡ stands = some_same (written_as copy Primary) stands (sym (ap standing_copy level) ∙ is) in
+      let level : newest ≡ newests.Level (written_as copy Primary) = same_Some newest (newests.Level (written_as copy Primary)) (sym here ∙ read_there size sector anchor both.is_anchored ∙ ap Some both.are_level) in
+      let own : written_as copy Primary ≡ stands = same_Some (written_as copy Primary) stands (sym (ap standing_copy level) ∙ is) in
       ap floor_of (sym own) ∙ same;
   below = by_anchor size sector anchor both.is_anchored floor behind;
   within = within;
@@ -93,7 +92,7 @@ module _ {D : Type 0} (start : BayState D) (slot : ℕ) (seat : SlotChange) (flo
     changing_floor : (now : ℕ → List ℕ) (update : Prepared) → IsChanging size (start.held slot) now update seat.anchor seat.last seat.old seat.new → HasFloor size now floor
     changing_floor now update is = record {
       same_floor = λ newest copy here stands.
-          let found : newest_of size now seat.anchor ≡ newest = some_same (newest_of size now seat.anchor) newest (sym (read_there size now seat.anchor is.is_anchored) ∙ here) in
+          let found : newest_of size now seat.anchor ≡ newest = same_Some (newest_of size now seat.anchor) newest (sym (read_there size now seat.anchor is.is_anchored) ∙ here) in
           let whole = standing_whole size now seat.anchor copy (ap standing_copy found ∙ stands) in
           alike_floor copy seat.old (alike size seat.anchor now (start.held slot) whole.0 seat.last copy seat.old whole.1 may.last_is)
           ∙ read_floor size (start.held slot) seat.anchor may.is_anchored seat.last seat.old may.last_is may.is_newest floor has;
@@ -117,8 +116,8 @@ module _ {D : Type 0} (start : BayState D) (slot : ℕ) (seat : SlotChange) (flo
       one_floor : (found : Newest) (copy : DiskCopy) → newest_at size now ≡ Some found → standing_copy found ≡ Some copy → floor_of copy ≡ floor
           → (newest : Newest) (other : DiskCopy) → newest_at size now ≡ Some newest → standing_copy newest ≡ Some other → floor_of other ≡ floor
       one_floor found copy there stands own newest other here its =
-          let one : found ≡ newest = some_same found newest (sym there ∙ here) in
-          let both : copy ≡ other = some_same copy other (sym stands ∙ ap standing_copy one ∙ its) in
+          let one : found ≡ newest = same_Some found newest (sym there ∙ here) in
+          let both : copy ≡ other = same_Some copy other (sym stands ∙ ap standing_copy one ∙ its) in
           ap floor_of (sym both) ∙ own
 
       now_floor : IsReadAdopting size (start.held slot) now seat.last seat.old seat.new → (newest : Newest) (copy : DiskCopy) → newest_at size now ≡ Some newest → standing_copy newest ≡ Some copy → floor_of copy ≡ floor
@@ -168,7 +167,7 @@ module _ {D : Type 0} (start : BayState D) (slots : List ℕ) (seat : ℕ → Sl
       → HasFloor (size_of start slot) (image slot) floor
   each_floor place slot at floor same has =
       let within = place_within slots place slot at in
-      let update = place_there updates place (omega (arith, within, counted)) in
+      let update = some_at_place updates place (omega (arith, within, counted)) in
       let can = may.may_change place slot at in
       elim (cases_lt place left.turn) [
         | inl earlier ↦ got_floor start slot (seat place) floor same has (image slot) (seat place).mode can (left.earlier place slot update.0 earlier at update.1).are_both

@@ -72,7 +72,7 @@ less_first : {X : Type 0} (xs ys : List X) → length xs ≤ length (xs ++ ys)
 less_first xs ys = let counted = length-append xs ys in omega arith
 
 -- Issuing leaves what is acknowledged as it is.
-acked_still : (group : List ℕ) (past : Past (groups group)) (changes : List Configuration) → (issue_all group past changes).changes.acked ≡ past.changes.acked
+pub acked_still : (group : List ℕ) (past : Past (groups group)) (changes : List Configuration) → (issue_all group past changes).changes.acked ≡ past.changes.acked
 acked_still group past [] = refl
 acked_still group past (next ∷ others) = acked_still group (issue past next) others
 

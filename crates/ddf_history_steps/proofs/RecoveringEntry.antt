@@ -2,6 +2,7 @@
 use Rattle.std.proofs.Common.{◌≡◌, ℕ, Bool, true, false, List, [], length, Option, Some, Ok, refl, ap, sym, ◌∙◌, subst}
 use Rattle.std.proofs.Math.Path.{fun_ext}
 use Rattle.std.specs.Prelude.{slice_get, unwrap_or}
+use Rattle.ddf_lemmas.proofs.Lists.{in_map, mapped_at}
 use Rattle.ddf_bay.specs.Sectors.{Image, IsLeft}
 use Rattle.ddf_bay.specs.State.{BayState}
 use Rattle.ddf_config.specs.declared.seat.Seat.{Seat}
@@ -9,7 +10,6 @@ use Rattle.ddf_copy.specs.declared.copy.DiskCopy.{DiskCopy}
 use Rattle.ddf_copy.specs.declared.newest_copy.Newest.{Newest}
 use Rattle.ddf_plan.specs.Lose.{is_among}
 use Rattle.ddf_view.specs.View.{View, view_of}
-use Rattle.ddf_rewrite.proofs.Lists.{get_map, map_get}
 use Rattle.ddf_history.specs.Reading.{Scene}
 use Rattle.ddf_history.specs.Issued.{Past, IsSince, is_away}
 use Rattle.ddf_history.specs.Leaders.{seen}
@@ -149,7 +149,7 @@ module _ (group : List ℕ) {D : Type 0} (past : Past (groups group)) (state : B
     pub disk_seated : is_slot (slots_of found.seats) disk.seat.slot ≡ true
     disk_seated =
         let own = seated_is found k disk at in
-        slot_is (slots_of found.seats) own.place disk.seat.slot (get_map (λ (seat : Seat). seat.slot) found.seats own.place disk.seat own.is_seat)
+        slot_is (slots_of found.seats) own.place disk.seat.slot (mapped_at (λ (seat : Seat). seat.slot) found.seats own.place disk.seat own.is_seat)
 
     -- Its slot is claimed, by this copy.
     pub disk_claimed : IsClaimed (groups group) (seen (is_read left) held) disk.seat.slot (view_of disk.copy)
@@ -179,9 +179,9 @@ module _ (group : List ℕ) {D : Type 0} (past : Past (groups group)) (state : B
   pub seat_on : (slot : ℕ) → is_slot (slots_of found.seats) slot ≡ true → IsSeatOn slot
   seat_on slot is =
       let placed = slot_placed (slots_of found.seats) slot is in
-      let seat = map_get (λ (one : Seat). one.slot) found.seats placed.0 slot placed.1 in
+      let seat = in_map (λ (one : Seat). one.slot) found.seats placed.0 slot placed.1 in
       let there : slice_get (seats_in (seated found)) placed.0 ≡ Some seat.0 = ap (λ (seats : List Seat). slice_get seats placed.0) taken.assembled.are_seated ∙ seat.1 in
-      let disk = map_get (λ (one : Seated). one.seat) (seated found) placed.0 seat.0 there in
+      let disk = in_map (λ (one : Seated). one.seat) (seated found) placed.0 seat.0 there in
       record { place = placed.0; disk = disk.0; is_there = disk.1; slot_is = ap (λ (one : Seat). one.slot) disk.2 ∙ seat.2 }
 
   -- So the copy that stands for its slot claims it.

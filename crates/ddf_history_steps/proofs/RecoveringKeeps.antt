@@ -1,15 +1,11 @@
 -- `recover` by itself keeps a history that admits it, and the group stands at the end of the history behind it.
-use Rattle.std.proofs.Common.{◌≡◌, ◌⊎◌, ℕ, zero, suc, ◌+◌, Bool, true, false, List, [], ◌∷◌, ◌++◌, length, Option, Some, Result, Ok, Err, refl, ap, sym, ◌∙◌, subst, inl, inr, append-nil, arith, zero-add}
+use Rattle.std.proofs.Common.{◌≡◌, ◌⊎◌, ℕ, Bool, true, false, List, [], ◌++◌, length, Option, Some, Ok, refl, ap, sym, ◌∙◌, subst, inl, inr, append-nil, zero-add}
 use Rattle.std.specs.Prelude.{slice_get}
-use Rattle.ddf_header.specs.declared.reading.Header.{Header}
 use Rattle.ddf_bay.specs.Moments.{StopsLeave}
 use Rattle.ddf_bay.specs.Sectors.{Image, IsLeft}
-use Rattle.ddf_bay.specs.State.{BayState, size_of}
+use Rattle.ddf_bay.specs.State.{BayState}
 use Rattle.ddf_bay.proofs.Steps.{left_keeps, stops_weaken}
-use Rattle.ddf_copy.specs.declared.fault.AnchorFault.{AnchorFault}
 use Rattle.ddf_copy.specs.declared.newest_copy.Newest.{Newest}
-use Rattle.ddf_copy.specs.Anchor.{anchor_at}
-use Rattle.ddf_copy.specs.Copies.{newest_under}
 use Rattle.ddf_config.specs.Configuration.{Configuration}
 use Rattle.ddf_plan.specs.declared.change.Change.{Change}
 use Rattle.ddf_update.specs.Changes.{AreChanged, IsLeftChangingAll}
@@ -23,10 +19,10 @@ use Rattle.ddf_seats.specs.Group.{GroupValue}
 use Rattle.ddf_assembly.specs.Group.{group_of}
 use Rattle.ddf_assembly.specs.Held.{AreHeldOn, IsHeldOn}
 use Rattle.ddf_recovery.specs.Ready.{ReadyValue}
-use Rattle.ddf_assembly.specs.Slots.{newest_from, newest_or}
+use Rattle.ddf_assembly.specs.Slots.{newest_from}
 use Rattle.ddf_recovery.proofs.RecoveredGroup.{recovered_ready}
 use Rattle.ddf_recovery.proofs.RecoveryWritten.{may_recover}
-use Rattle.ddf_assembly.proofs.SettledHeld.{newest_kept}
+use Rattle.ddf_assembly.proofs.SettledHeld.{newest_kept, held_from}
 use Rattle.ddf_history_steps.specs.AtEnd.{IsAtEnd}
 use Rattle.ddf_history_steps.specs.Going.{Goes, IsAdmitted, IsOver, IsUnderway, KeepsHistory}
 use Rattle.ddf_history_steps.specs.Kept.{AreAllKept, ReadsTrue, is_read}
@@ -35,29 +31,6 @@ use Rattle.ddf_history_steps.proofs.CommittingFirst.{tried_on}
 use Rattle.ddf_history_steps.proofs.Recovering.{recovery_done, recovery_goes, recovery_goes_on, recovery_kept, recovery_last, recovery_over, recovery_past, synced_kept}
 
 -- ---- what is held
-
--- A newest copy stands under an anchor.
-held_under : {D : Type 0} (disks : BayState D) (slot : ℕ) (newest : Newest) (anchored : Result Header AnchorFault)
-    → anchor_at (size_of disks slot) (disks.held slot) ≡ anchored → newest_under (size_of disks slot) (disks.held slot) anchored ≡ Some newest → IsHeldOn disks slot newest
-held_under disks slot newest (Ok anchor) is h = record { anchor = anchor; is_anchored = is; is_newest = cc }
-held_under disks slot newest (Err fault) is h = absurd cc
-
--- A slot that isn't left out holds what is read of it.
-held_or : {D : Type 0} (disks : BayState D) (slot : ℕ) (out : Bool) (newest : Newest) → newest_or disks slot out ≡ Some newest → IsHeldOn disks slot newest
-held_or disks slot true newest h = absurd cc
-held_or disks slot false newest h = held_under disks slot newest (anchor_at (size_of disks slot) (disks.held slot)) refl h
-
--- So does each of several.
-held_from : {D : Type 0} (disks : BayState D) (first : ℕ) (left : List Bool) (place : ℕ) (newest : Newest)
-    → slice_get (newest_from disks first left) place ≡ Some (Some newest) → IsHeldOn disks (first + place) newest
-held_from disks first [] place newest h = absurd cc
-held_from disks first (out ∷ left) zero newest h =
-    let here : first ≡ first + 0 = omega arith in
-    let is : newest_or disks first out ≡ Some newest = cc in
-    subst (λ (slot : ℕ). IsHeldOn disks slot newest) here (held_or disks first out newest is)
-held_from disks first (out ∷ left) (suc place) newest h =
-    let there : suc first + place ≡ first + suc place = omega arith in
-    subst (λ (slot : ℕ). IsHeldOn disks slot newest) there (held_from disks (suc first) left place newest h)
 
 -- The slots of an assembled group hold its newest copies.
 pub group_held : {D : Type 0} (disks : BayState D) (left : List Bool) (named : Option (List ℕ)) (found : GroupValue) → group_of (newest_from disks 0 left) named ≡ Ok found

@@ -1,17 +1,18 @@
 -- The leaders of an assembled group without absent members are the slots that histories read to lead.
-use Rattle.std.proofs.Common.{◌≡◌, ℕ, zero, suc, ◌+◌, Bool, true, false, List, [], ◌∷◌, ◌++◌, length, map, Option, Some, if◌then◌else◌, refl, ap, sym, ◌∙◌, subst, arith}
+use Rattle.std.proofs.Common.{◌≡◌, ℕ, zero, suc, Bool, true, false, List, [], ◌∷◌, ◌++◌, length, map, Option, Some, if◌then◌else◌, refl, ap, sym, ◌∙◌, subst}
 use Rattle.std.proofs.lemmas.Bool.{and_from, and_parts, eq-eqb, false≢true}
 use Rattle.std.proofs.lemmas.List.{length-map, map-append}
 use Rattle.std.proofs.lemmas.List.Elements.{filter-append, filter_map-append}
 use Rattle.std.specs.Prelude.{filter, filter_map, slice_get}
 use Rattle.std.specs.List.{cons_option, range_with_len}
 use Rattle.std.specs.Str.{bytes_eq}
+use Rattle.ddf_lemmas.proofs.Lists.{bytes_same, range_below}
 use Rattle.ddf_bay.specs.State.{BayState}
 use Rattle.ddf_config.specs.declared.seat.Seat.{Seat}
 use Rattle.ddf_copy.specs.declared.newest_copy.Newest.{Newest}
 use Rattle.ddf_copy.specs.Written.{CanBeCopy}
 use Rattle.ddf_view.specs.View.{View, lists_itself, view_of}
-use Rattle.ddf_view.proofs.Tests.{bytes_same, same_bytes}
+use Rattle.ddf_view.proofs.Tests.{same_bytes}
 use Rattle.ddf_group.specs.declared.shown.Shown.{Shown as GroupShown}
 use Rattle.ddf_group.specs.Assembled.{assembled_as}
 use Rattle.ddf_group.specs.Shown.{shown_of}
@@ -46,22 +47,12 @@ use Rattle.ddf_history_steps.proofs.Seats.{claims_seat, copy_there, group_made}
 use Rattle.ddf_history_steps.proofs.Slots.{slot_is}
 use Rattle.ddf_history_steps.proofs.Told.{one_group, scene_is}
 
--- The next number goes behind those before it.
-range_next : (start count : ℕ) → range_with_len start (suc count) ≡ range_with_len start count ++ (start + count) ∷ []
-range_next start zero = let here : start ≡ start + 0 = omega arith in ap (λ (n : ℕ). n ∷ []) here
-range_next start (suc count) =
-    let next : start + 1 + count ≡ start + suc count = omega arith in
-    ap (λ (ns : List ℕ). start ∷ ns) (range_next (start + 1) count ∙ ap (λ (n : ℕ). range_with_len (start + 1) count ++ n ∷ []) next)
-
-range_below : (count : ℕ) → range_with_len 0 (suc count) ≡ range_with_len 0 count ++ count ∷ []
-range_below count = let here : 0 + count ≡ count = omega arith in range_next 0 count ∙ ap (λ (n : ℕ). range_with_len 0 count ++ n ∷ []) here
-
 -- Of one slot what a call shows is its first copy.
 only_first : {A : Type 0} (shown : Shown A) (one first : A) → shown ≡ One one → IsFirstOf shown first → first ≡ one
 only_first shown one first is there = subst (λ (it : Shown _). IsFirstOf it first) is there
 
 -- So many slots are read.
-length_read : {D : Type 0} (state : BayState D) (first : ℕ) (left : List Bool) → length (newest_from state first left) ≡ length left
+pub length_read : {D : Type 0} (state : BayState D) (first : ℕ) (left : List Bool) → length (newest_from state first left) ≡ length left
 length_read state first [] = refl
 length_read state first (out ∷ left) = ap suc (length_read state (suc first) left)
 

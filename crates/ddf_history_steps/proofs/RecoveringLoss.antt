@@ -1,6 +1,6 @@
 -- What recovery writes where members are absent: their loss, to each seat.
 use Rattle.std.proofs.Common.{◌≡◌, ℕ, ◌+◌, ◌<◌, ◌≤◌, ◌&&◌, ◌||◌, not, Bool, true, false, eqb, nat_eq, List, [], ◌∷◌, length, map, Option, Some, None, if◌then◌else◌, refl, ap, sym, ◌∙◌, inl, inr, subst}
-use Rattle.std.proofs.lemmas.Bool.{and_parts, or_from, or_parts, cases_lt, eq-eqb, eqb-true, false≢true, true≢false}
+use Rattle.std.proofs.lemmas.Bool.{and_parts, or_from, or_parts, cases_lt, eq-eqb, eqb-true, false≢true}
 use Rattle.std.specs.Prelude.{filter, slice_get}
 use Rattle.std.specs.List.{AllByRecursion}
 use Rattle.std.specs.Str.{bytes_eq}
@@ -15,7 +15,6 @@ use Rattle.ddf_plan.specs.declared.change.Change.{Change}
 use Rattle.ddf_plan.specs.declared.change.Change.TheVariants.{Lose}
 use Rattle.ddf_plan.specs.Members.{member_after, members_after}
 use Rattle.ddf_plan.specs.Lose.{is_among}
-use Rattle.ddf_config.specs.Entries.{changed_entries}
 use Rattle.ddf_update.specs.declared.prepared.Mode.TheVariants as modes
 use Rattle.ddf_update.specs.Prepared.{writes_anchor}
 use Rattle.ddf_view.specs.View.{View, view_of}
@@ -54,20 +53,16 @@ use Rattle.ddf_recovery.proofs.Lost.{lost_held}
 use Rattle.ddf_steps.proofs.OneLength.{HasRoom, can_try_all, has_room as room_in, room_on}
 use Rattle.ddf_recovery.proofs.ReadiedParts.{has_room, loss_rises}
 use Rattle.ddf_steps.proofs.Rewritten.{capacities, closed_view}
+use Rattle.ddf_steps.proofs.MembersAfter.{changed_map}
 use Rattle.ddf_history_steps.specs.Kept.{is_read, is_slot}
 use Rattle.ddf_history_steps.proofs.ChangingCopies.{changed_views}
 use Rattle.ddf_history_steps.proofs.ChangingLoss.{loss_acknowledged, loss_acknowledged_last, loss_issued, loss_kept, loss_may_write, loss_number, loss_turned_last}
-use Rattle.ddf_history_steps.proofs.ChangingStays.{stays_current}
+use Rattle.ddf_history_steps.proofs.ChangingStays.{stays_current, turned}
 use Rattle.ddf_history_steps.proofs.RecoveringEntry.{IsTaken, are_sure, assembled, claimed_is_current, disk_reference, issued, kept_held, member_claimed, not_absent, old, seat_claimed, sure_kept, sure_state}
 use Rattle.ddf_history_steps.proofs.RecoveringPlaces.{IsWrittenOn, new_views, others_last, written_on, written_seated}
 use Rattle.ddf_history_steps.proofs.Stops.{AreInTurn}
 use Rattle.ddf_history_steps.proofs.TheoryClaimed.{claimed_held}
 use Rattle.ddf_history_steps.proofs.TheoryLoss.{left_from}
-
--- Numbers that differ one way do so the other.
-turned : (one other : ℕ) (test : Bool) → nat_eq other one ≡ test → eqb one other ≡ false → nat_eq other one ≡ false
-turned one other true same differ = absurd (true≢false (sym (eq-eqb one other (sym (eqb-true other one same))) ∙ differ))
-turned one other false same differ = same
 
 -- The reference of a disk that is a current member is a current one.
 pub listed_current : (disk : Disk) (config : Configuration) (members : List (ℕ × Member)) → has_current (record config { members = members }) disk ≡ true
@@ -86,7 +81,7 @@ listed_current disk config (entry ∷ members) is = go (listed_current disk conf
         rw (back, is_current) (later (rw here at is))
 
 -- A member that isn't lost stays current.
-still_current_in : (config : Configuration) (references : List ℕ) (reference : ℕ) → is_among references reference ≡ false → (members : List (ℕ × Member)) → is_current members reference ≡ true
+pub still_current_in : (config : Configuration) (references : List ℕ) (reference : ℕ) → is_among references reference ≡ false → (members : List (ℕ × Member)) → is_current members reference ≡ true
     → is_current (map (λ (entry : ℕ × Member). (entry.0, member_after config (Lose references) entry.0 entry.1)) members) reference ≡ true
 still_current_in config references reference free [] is = is
 still_current_in config references reference free (entry ∷ members) is = go (still_current_in config references reference free members) (nat_eq reference entry.0) refl
@@ -99,11 +94,6 @@ still_current_in config references reference free (entry ∷ members) is = go (s
         let same : (member_after config (Lose references) entry.0 entry.1).missing ≡ entry.1.missing = ap (λ (b : Bool). b || entry.1.missing) none in
         rw (here, is_current) (ap (λ (b : Bool). not b) same ∙ rw (here, is_current) at is)
     go later false here = rw (here, is_current) (later (rw (here, is_current) at is))
-
--- Entries that a change keeps each are as it makes them.
-changed_map : (g : ℕ → Member → Member) (entries : List (ℕ × Member)) → changed_entries (λ k m. Some (g k m)) entries ≡ map (λ (entry : ℕ × Member). (entry.0, g entry.0 entry.1)) entries
-changed_map g [] = refl
-changed_map g (entry ∷ entries) = ap (λ (l : List (ℕ × Member)). (entry.0, g entry.0 entry.1) ∷ l) (changed_map g entries)
 
 pub lose_leaves : (config : Configuration) (references : List ℕ) (reference : ℕ) → is_among references reference ≡ false → is_current config.members reference ≡ true
     → is_current (members_after config (Lose references)) reference ≡ true

@@ -2,13 +2,13 @@
 use Rattle.std.proofs.Common.{◌≡◌, ℕ, ◌+◌, ◌&&◌, ◌||◌, not, Bool, true, false, List, [], ◌∷◌, map, Option, Some, if◌then◌else◌, refl, ap, sym, ◌∙◌, inr, subst}
 use Rattle.std.proofs.lemmas.Bool.{or_from, or_parts}
 use Rattle.std.specs.Prelude.{slice_get}
+use Rattle.ddf_lemmas.proofs.Lists.{in_map, mapped_at}
 use Rattle.ddf_bay.specs.State.{BayState}
 use Rattle.ddf_config.specs.Configuration.{Configuration}
 use Rattle.ddf_config.specs.Members.{is_current}
 use Rattle.ddf_plan.specs.declared.change.Change.{Change}
 use Rattle.ddf_plan.specs.declared.change.Change.TheVariants.{Lose}
 use Rattle.ddf_view.specs.View.{View, view_of}
-use Rattle.ddf_rewrite.proofs.Lists.{get_map, map_get}
 use Rattle.ddf_history.specs.Reading.{Scene}
 use Rattle.ddf_history.specs.Issued.{Past, acknowledge, is_away}
 use Rattle.ddf_history.specs.Leaders.{seen}
@@ -31,9 +31,9 @@ use Rattle.ddf_seats.specs.Seated.{seated, seats_in, slots_in, levelled}
 use Rattle.ddf_steps.specs.Steps.{disks_after, in_order, rewritten, stays_in}
 use Rattle.ddf_steps.proofs.Ordered.{order_from}
 use Rattle.ddf_recovery.proofs.RecoveredGroup.{is_recovered}
+use Rattle.ddf_history.proofs.Following.{changes_follow}
 use Rattle.ddf_history_steps.specs.Kept.{is_read, is_slot}
 use Rattle.ddf_history_steps.specs.AtEnd.{IsMember}
-use Rattle.ddf_history_steps.proofs.Changing.{follows}
 use Rattle.ddf_history_steps.proofs.RecoveringEntry.{IsTaken, assembled, claimed_is_current, claimed_seated, disk_claimed, disk_member, disk_reference, issued, kept_held, member_claimed, seat_on}
 use Rattle.ddf_history_steps.proofs.RecoveringLoss.{listed_current, lost_acknowledged, lost_disks, lost_issued, lost_kept, lost_last, lost_one, lost_past, lost_rises, lost_views, new}
 use Rattle.ddf_history_steps.proofs.RecoveringPlaces.{passes_written}
@@ -44,15 +44,15 @@ use Rattle.ddf_history_steps.proofs.TheoryClaimed.{claimed_held}
 use Rattle.ddf_history_steps.proofs.TheoryLoss.{left_from}
 
 -- A slot of disks in the order in which they are written is that of one of them.
-ordered_slot : (disks : List Seated) (slot : ℕ) → is_slot (slots_in (in_order disks)) slot ≡ true → is_slot (slots_in disks) slot ≡ true
+pub ordered_slot : (disks : List Seated) (slot : ℕ) → is_slot (slots_in (in_order disks)) slot ≡ true → is_slot (slots_in disks) slot ≡ true
 ordered_slot disks slot is =
     let at = slot_placed (slots_in (in_order disks)) slot is in
-    let one = map_get (λ (disk : Seated). disk.seat.slot) (in_order disks) at.0 slot at.1 in
+    let one = in_map (λ (disk : Seated). disk.seat.slot) (in_order disks) at.0 slot at.1 in
     let from = order_from disks at.0 one.0 one.1 in
-    slot_is (slots_in disks) from.0 slot (get_map (λ (disk : Seated). disk.seat.slot) disks from.0 one.0 from.1 ∙ ap Some one.2)
+    slot_is (slots_in disks) from.0 slot (mapped_at (λ (disk : Seated). disk.seat.slot) disks from.0 one.0 from.1 ∙ ap Some one.2)
 
 -- The slots of disks' seats are those of the disks.
-slots_same : (disks : List Seated) → slots_of (seats_in disks) ≡ slots_in disks
+pub slots_same : (disks : List Seated) → slots_of (seats_in disks) ≡ slots_in disks
 slots_same [] = refl
 slots_same (disk ∷ disks) = ap (λ (slots : List ℕ). disk.seat.slot ∷ slots) (slots_same disks)
 
@@ -95,7 +95,7 @@ module _ (group : List ℕ) {D : Type 0} (past : Past (groups group)) (state : B
       → (view : View) × IsClaimed (groups group) (seen readable held) slot view
   still_claimed slot here current =
       let rises = lost_rises group past state left named found taken changes timestamp ready was may absent in
-      let now = (follows group found.config (Lose found.absent) lost.sequence rises).no_more (past.disk slot) current in
+      let now = (changes_follow group found.config (Lose found.absent) lost.sequence rises).no_more (past.disk slot) current in
       let read = seated_where_left_out past readable found.config slot here now in
       let apart = or_parts (past.lost slot || not (readable slot) && has_current found.config (past.disk slot)) (past.returned slot) here in
       let stays = (or_parts (past.lost slot) (not (readable slot) && has_current found.config (past.disk slot)) apart.0).0 in
@@ -144,7 +144,7 @@ module _ (group : List ℕ) {D : Type 0} (past : Past (groups group)) (state : B
 
   are_members : AreMembers after.config (seated after)
   are_members place disk at =
-      let one = map_get levelled (disks_after timestamp (leading found) lost (seated found)) place disk (ap (λ (all : List Seated). slice_get all place) (sym disks_are) ∙ at) in
+      let one = in_map levelled (disks_after timestamp (leading found) lost (seated found)) place disk (ap (λ (all : List Seated). slice_get all place) (sym disks_are) ∙ at) in
       subst (λ (config : Configuration). IsMember config disk) (sym config_is)
       (subst (IsMember lost) one.2 (levelled_member lost one.0 (written_members place one.0 one.1)))
 

@@ -1,15 +1,16 @@
 -- What recovery writes where no member is absent: the leaders' configuration, to the seats that lag.
-use Rattle.std.proofs.Common.{◌≡◌, ℕ, Bool, true, false, not, eqb, List, [], ◌∷◌, map, Option, Some, None, if◌then◌else◌, refl, ap, sym, ◌∙◌, subst}
+use Rattle.std.proofs.Common.{◌≡◌, ℕ, Bool, true, false, not, eqb, List, [], map, Option, Some, None, if◌then◌else◌, refl, ap, sym, ◌∙◌, subst}
 use Rattle.std.proofs.lemmas.Bool.{false≢true}
-use Rattle.std.specs.Prelude.{filter, option_map, slice_get, slice_index}
+use Rattle.std.specs.Prelude.{filter, slice_get, slice_index}
 use Rattle.std.specs.List.{AllByRecursion, list_any}
 use Rattle.std.specs.Str.{bytes_eq}
+use Rattle.ddf_lemmas.proofs.Lists.{all_filter, filter_none}
+use Rattle.ddf_lemmas.proofs.Options.{none_from_map}
 use Rattle.ddf_update.specs.declared.prepared.Mode.TheVariants as modes
 use Rattle.ddf_update.specs.Prepared.{writes_anchor}
 use Rattle.ddf_bay.specs.Sectors.{Image, IsLeft}
 use Rattle.ddf_bay.specs.State.{BayState}
 use Rattle.ddf_copy.specs.declared.copy.DiskCopy.{DiskCopy}
-use Rattle.ddf_copy.specs.declared.newest_copy.Newest.{Newest}
 use Rattle.ddf_copy.specs.declared.newest_copy.Newest.TheVariants.{Level}
 use Rattle.ddf_copy.specs.Copies.{newest_of}
 use Rattle.ddf_copy.specs.Written.{CanBeCopy}
@@ -17,7 +18,6 @@ use Rattle.ddf_plan.specs.declared.change.Change.{Change}
 use Rattle.ddf_view.specs.View.{View, view_of}
 use Rattle.ddf_view.specs.Reading.{read}
 use Rattle.ddf_view.specs.Shows.{shows}
-use Rattle.ddf_group.specs.Shown.{shown_of}
 use Rattle.ddf_rewrite.specs.Before.{before}
 use Rattle.ddf_rewrite.specs.Hold.{CanBeRecovered}
 use Rattle.ddf_rewrite.proofs.Lists.{all_at, all_mapped}
@@ -46,36 +46,20 @@ use Rattle.ddf_recovery.specs.Recovery.{config_lost, full_mended, full_of_mendin
 use Rattle.ddf_seats.specs.Leading.{lags, leading, leading_disks, leading_views, leads, some}
 use Rattle.ddf_seats.specs.Seated.{seated, is_adopted}
 use Rattle.ddf_steps.specs.Steps.{Step, in_order}
-use Rattle.ddf_seats.proofs.Lists.{filter_have}
 use Rattle.ddf_recovery.proofs.Mended.{HasMendingRoom, can_mend_all, mending_room, recovers, where_kept}
 use Rattle.ddf_seats.proofs.RecordsHeld.{views_are}
 use Rattle.ddf_recovery.proofs.ReadiedParts.{has_room}
 use Rattle.ddf_steps.proofs.Rewritten.{closed_view}
-use Rattle.ddf_assembly.proofs.SettledLists.{none_kept}
+use Rattle.ddf_recovery.proofs.Behind.{none_some}
 use Rattle.ddf_history_steps.specs.Kept.{is_read, is_slot}
 use Rattle.ddf_history_steps.proofs.Mending.{begun_kept, mending_acknowledged, mending_kept, mending_may_write}
 use Rattle.ddf_history_steps.proofs.MendingSeats.{mended_copy}
 use Rattle.ddf_history_steps.proofs.RecoveringEntry.{IsTaken, are_sure, assembled, current_seated, issued, none_absent, old, seat_claimed, seat_on, seat_sure, sure_kept, sure_state}
 use Rattle.ddf_history_steps.proofs.RecoveringLeaders.{leaders_are}
 use Rattle.ddf_history_steps.proofs.RecoveringPlaces.{IsWrittenOn, new_views, others_last, passes_written, written_on, written_seated}
-use Rattle.ddf_history_steps.proofs.ShownCopies.{shows_newest, told}
+use Rattle.ddf_history_steps.proofs.ShownCopies.{shows_newest, level_told}
 use Rattle.ddf_history_steps.proofs.Stops.{AreInTurn, same_scene, scene_at}
 use Rattle.ddf_history_steps.proofs.TheoryClaimed.{claimed_held}
-
--- A list that has none is empty.
-none_some : {X : Type 0} (xs : List X) → some xs ≡ false → xs ≡ []
-none_some [] is = refl
-none_some (x ∷ xs) is = absurd cc
-
--- What nothing is made of isn't there.
-nothing_made : {X Y : Type 0} (f : X → Y) (o : Option X) → option_map f o ≡ None → o ≡ None
-nothing_made f None is = refl
-nothing_made f (Some x) is = absurd cc
-
--- Level copies are told as one.
-level_told : (newest : Newest) (copy : DiskCopy) → newest ≡ Level copy → told newest ≡ One (view_of copy)
-unfolding shown_of
-level_told newest copy is = ap told is
 
 module _ (group : List ℕ) {D : Type 0} (past : Past (groups group)) (state : BayState D) (left : List Bool) (named : Option (List ℕ)) (found : GroupValue)
     (taken : IsTaken group past state left named found) (changes : List Change) (timestamp : ℕ) (ready : ReadyValue) (was : WasReadied found changes timestamp ready)
@@ -127,9 +111,9 @@ module _ (group : List ℕ) {D : Type 0} (past : Past (groups group)) (state : B
           ap disks_written one.1 ∙ ap (λ (made : Step). in_order made.disks) one.2
       by false is =
           let step : recovery_of timestamp found ≡ None = recovery_is ∙ ap (λ (b : Bool). if b then Some (mending_step timestamp found) else None) is in
-          let nothing = nothing_made (λ (one : ReadyStep). one.step) ready.recovery (was.is_recovery ∙ step) in
+          let nothing = none_from_map (λ (one : ReadyStep). one.step) ready.recovery (was.is_recovery ∙ step) in
           let no_lag = none_some found.lagging is in
-          let kept = none_kept (lags found) (seated found) (λ disk. none_lags disk no_lag) in
+          let kept = filter_none (lags found) (seated found) (λ disk. none_lags disk no_lag) in
           ap disks_written nothing ∙ sym (ap (λ (disks : List Seated). in_order (map (mended (leading found) found.config timestamp) disks)) kept)
 
   -- ---- the leaders
@@ -148,7 +132,7 @@ module _ (group : List ℕ) {D : Type 0} (past : Past (groups group)) (state : B
   unfolding leading_disks
   leaders_can =
       all_mapped CanBeCopy (λ (disk : Seated). disk.copy) (leading_disks found)
-      (filter_have (λ (disk : Seated). CanBeCopy disk.copy) (leads found.config) (seated found) taken.assembled.are_copies)
+      (all_filter (λ (disk : Seated). CanBeCopy disk.copy) (leads found.config) (seated found) taken.assembled.are_copies)
 
   -- They give the configuration.
   pub leaders_read : read group found.config.sequence (map view_of leaders) ≡ found.config

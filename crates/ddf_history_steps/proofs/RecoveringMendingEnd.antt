@@ -1,11 +1,11 @@
 -- Recovery where no member is absent: the seats that lag get the leaders' configuration, which is then acknowledged.
 use Rattle.std.proofs.Common.{◌≡◌, ℕ, Bool, true, false, List, map, Option, Some, None, if◌then◌else◌, refl, ap, sym, ◌∙◌, subst}
 use Rattle.std.specs.Prelude.{slice_get}
+use Rattle.ddf_lemmas.proofs.Lists.{in_map}
 use Rattle.ddf_bay.specs.State.{BayState}
 use Rattle.ddf_config.specs.declared.seat.Seat.{Seat}
 use Rattle.ddf_config.specs.Configuration.{Configuration}
 use Rattle.ddf_plan.specs.declared.change.Change.{Change}
-use Rattle.ddf_rewrite.proofs.Lists.{map_get}
 use Rattle.ddf_history.specs.Issued.{Past, acknowledge, take_off}
 use Rattle.ddf_history.specs.Groups.{groups, has_current}
 use Rattle.ddf_history.specs.Steps.{IsLast}
@@ -77,7 +77,7 @@ module _ (group : List ℕ) {D : Type 0} (past : Past (groups group)) (state : B
 
   are_members : (place : ℕ) (disk : Seated) → slice_get (seated after) place ≡ Some disk → IsMember after.config disk
   are_members place disk at =
-      let one = map_get (mended_or_kept timestamp found) (seated found) place disk (ap (λ (all : List Seated). slice_get all place) (sym disks_are) ∙ at) in
+      let one = in_map (mended_or_kept timestamp found) (seated found) place disk (ap (λ (all : List Seated). slice_get all place) (sym disks_are) ∙ at) in
       subst (λ (config : Configuration). IsMember config disk) (sym config_is) (subst (IsMember found.config) one.2 (is_member place one.0 one.1))
 
   -- ---- all of it

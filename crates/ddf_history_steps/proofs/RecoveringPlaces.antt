@@ -1,13 +1,12 @@
 -- The slots that recovery writes: those of seats whose disks pass a test.
 use Rattle.std.proofs.Common.{◌≡◌, ℕ, Bool, true, false, not, List, map, Option, Some, None, refl, ap, sym, ◌∙◌, inl, inr, subst}
-use Rattle.std.proofs.lemmas.Bool.{false≢true}
 use Rattle.std.specs.Prelude.{filter, slice_get}
 use Rattle.std.specs.Str.{bytes_eq}
+use Rattle.ddf_lemmas.proofs.Lists.{filter_get, filter_pass, filtered_passes, in_map, mapped_at}
 use Rattle.ddf_bay.specs.State.{BayState}
 use Rattle.ddf_copy.specs.declared.copy.DiskCopy.{DiskCopy}
 use Rattle.ddf_view.specs.View.{View, view_of}
-use Rattle.ddf_view.proofs.Tests.{bytes_same, same_bytes}
-use Rattle.ddf_rewrite.proofs.Lists.{all_at, get_map, map_get}
+use Rattle.ddf_rewrite.proofs.Lists.{all_at}
 use Rattle.ddf_history.specs.Reading.{Scene, Shown, IsCopyOf}
 use Rattle.ddf_history.specs.Issued.{Past}
 use Rattle.ddf_history.specs.Steps.{OthersLast}
@@ -20,11 +19,10 @@ use Rattle.ddf_seats.specs.Group.{GroupValue}
 use Rattle.ddf_steps.specs.Ready.{ReadyStep}
 use Rattle.ddf_recovery.specs.Ready.{ReadyValue}
 use Rattle.ddf_seats.specs.Seated.{seated, slots_in, is_adopted}
-use Rattle.ddf_seats.proofs.Lists.{filter_get, filter_pass}
 use Rattle.ddf_steps.specs.Steps.{in_order}
 use Rattle.ddf_steps.proofs.Ordered.{adopted_last, order_at, order_from}
+use Rattle.ddf_history.proofs.AnsweredTurned.{bytes_turned}
 use Rattle.ddf_history_steps.specs.Kept.{is_slot}
-use Rattle.ddf_history_steps.proofs.Filtered.{passes_kept}
 use Rattle.ddf_history_steps.proofs.RecoveringEntry.{IsTaken, disk_seated, old, old_is}
 use Rattle.ddf_history_steps.proofs.Slots.{slot_is as slot_among, slot_placed}
 use Rattle.ddf_history_steps.proofs.Stops.{AreInTurn}
@@ -33,16 +31,6 @@ use Rattle.ddf_history_steps.proofs.Stops.{AreInTurn}
 pub view_group : (copy : DiskCopy) → (view_of copy).group ≡ copy.header.guid
 unfolding view_of
 view_group copy = refl
-
--- Bytes are compared either way.
-pub bytes_turned : (one other : List ℕ) → bytes_eq one other ≡ bytes_eq other one
-bytes_turned one other = elim (which (bytes_eq one other)) [
-  | inl same ↦ let is = same_bytes one other same in same ∙ sym (ap (λ (x : List ℕ). bytes_eq x one) (sym is) ∙ bytes_same one)
-  | inr differ ↦ elim (which (bytes_eq other one)) [
-    | inl same ↦ let is = same_bytes other one same in absurd (false≢true (sym differ ∙ ap (λ (x : List ℕ). bytes_eq one x) is ∙ bytes_same one))
-    | inr also ↦ differ ∙ sym also
-  ]
-]
 
 -- What is written is written to the slots of its disks.
 pub slots_are : (next : Option ReadyStep) → slots_written next ≡ slots_in (disks_written next)
@@ -71,10 +59,10 @@ module _ (group : List ℕ) {D : Type 0} (past : Past (groups group)) (state : B
   placed : (place slot : ℕ) → slice_get (recovery_slots ready) place ≡ Some slot → (on : IsWrittenOn slot) × (on.place ≡ place)
   placed place slot at =
       let disks = disks_written ready.recovery in
-      let one = map_get (λ (disk : Seated). disk.seat.slot) disks place slot (ap (λ (slots : List ℕ). slice_get slots place) (sym (slots_are ready.recovery)) ∙ at) in
+      let one = in_map (λ (disk : Seated). disk.seat.slot) disks place slot (ap (λ (slots : List ℕ). slice_get slots place) (sym (slots_are ready.recovery)) ∙ at) in
       let there : slice_get (in_order (map write (filter test (seated found)))) place ≡ Some one.0 = ap (λ (all : List Seated). slice_get all place) (sym disks_are) ∙ one.1 in
       let ordered = order_from (map write (filter test (seated found))) place one.0 there in
-      let before = map_get write (filter test (seated found)) ordered.0 one.0 ordered.1 in
+      let before = in_map write (filter test (seated found)) ordered.0 one.0 ordered.1 in
       let from = filter_get test (seated found) ordered.0 before.0 before.1 in
       let slot_is : before.0.seat.slot ≡ slot = ap (λ (seat : _). seat.slot) (sym (same_seat before.0)) ∙ ap (λ (disk : Seated). disk.seat.slot) before.2 ∙ one.2 in (
         record {
@@ -105,12 +93,12 @@ module _ (group : List ℕ) {D : Type 0} (past : Past (groups group)) (state : B
   -- The slot of each disk that passes is written.
   pub passes_written : (k : ℕ) (disk : Seated) → slice_get (seated found) k ≡ Some disk → test disk ≡ true → is_slot (recovery_slots ready) disk.seat.slot ≡ true
   passes_written k disk at is =
-      let kept = passes_kept test (seated found) k disk at is in
-      let ordered = order_at (map write (filter test (seated found))) kept.0 (write disk) (get_map write (filter test (seated found)) kept.0 disk kept.1) in
+      let kept = filtered_passes test (seated found) k disk at is in
+      let ordered = order_at (map write (filter test (seated found))) kept.0 (write disk) (mapped_at write (filter test (seated found)) kept.0 disk kept.1) in
       let there : slice_get (disks_written ready.recovery) ordered.0 ≡ Some (write disk) = ap (λ (all : List Seated). slice_get all ordered.0) disks_are ∙ ordered.1 in
       let slot : slice_get (recovery_slots ready) ordered.0 ≡ Some disk.seat.slot =
       ap (λ (slots : List ℕ). slice_get slots ordered.0) (slots_are ready.recovery)
-      ∙ get_map (λ (one : Seated). one.seat.slot) (disks_written ready.recovery) ordered.0 (write disk) there
+      ∙ mapped_at (λ (one : Seated). one.seat.slot) (disks_written ready.recovery) ordered.0 (write disk) there
       ∙ ap (λ (seat : _). Some seat.slot) (same_seat disk) in
       slot_among (recovery_slots ready) ordered.0 disk.seat.slot slot
 

@@ -3,6 +3,7 @@ use Rattle.std.proofs.Common.{◌≡◌, ℕ, ◌<◌, Bool, true, false, List, 
 use Rattle.std.proofs.lemmas.Option.{slice_get-map}
 use Rattle.std.specs.Prelude.{filter, option_map, slice_get, unwrap_or}
 use Rattle.std.specs.Option.{option_and_then}
+use Rattle.ddf_lemmas.proofs.Lists.{filtered_passes, get_filter_map, mapped_at}
 use Rattle.ddf_config.specs.declared.seat.Seat.{Seat}
 use Rattle.ddf_copy.specs.declared.copy.DiskCopy.{DiskCopy}
 use Rattle.ddf_copy.specs.declared.newest_copy.Newest.{Newest}
@@ -19,13 +20,12 @@ use Rattle.ddf_group.specs.Choice.{chosen, is_shown}
 use Rattle.ddf_group.specs.Conflicts.{contradiction}
 use Rattle.ddf_group.specs.Shown.{shown_of}
 use Rattle.ddf_group.specs.Slots.{claimed, claims, numbers, slot_at, view_in}
-use Rattle.ddf_rewrite.proofs.AllWanted.{get_filter_map}
-use Rattle.ddf_rewrite.proofs.Lists.{get_map, get_range}
+use Rattle.ddf_rewrite.proofs.Lists.{get_range}
 use Rattle.ddf_steps.specs.Committed.{slots_of}
 use Rattle.ddf_seats.specs.Group.{GroupValue, copy_at, seat_at, seat_of, seats_of}
 use Rattle.ddf_assembly.specs.Group.{group_as}
 use Rattle.ddf_history_steps.proofs.Begun.{IsMadeOf}
-use Rattle.ddf_history_steps.proofs.Filtered.{made_of, passes_kept}
+use Rattle.ddf_history_steps.proofs.Filtered.{made_of}
 
 -- ---- the copy of a slot
 
@@ -116,7 +116,7 @@ module _ (newest : List (Option Newest)) (group : List ℕ) (g : GroupValue) (ma
       → (place : ℕ) × (slice_get (slots_of g.seats) place ≡ Some slot)
   claims_seat slot copy below claimed has =
       let number : slice_get (numbers slots) slot ≡ Some slot = (let at = get_range 0 (length slots) slot below in at.2 ∙ ap Some (at.1 ∙ zero-add slot)) in
-      let kept = passes_kept (claims slots group) (numbers slots) slot slot number claimed in
+      let kept = filtered_passes (claims slots group) (numbers slots) slot slot number claimed in
       let seat = get_filter_map (seat_at newest) (filter (claims slots group) (numbers slots)) kept.0 slot (seat_of slot copy) kept.1 (ap (option_map (seat_of slot)) has) in
       let there : slice_get g.seats seat.0 ≡ Some (seat_of slot copy) = ap (λ (seats : List Seat). slice_get seats seat.0) seats_are ∙ seat.1 in
-      (seat.0, get_map (λ (one : Seat). one.slot) g.seats seat.0 (seat_of slot copy) there)
+      (seat.0, mapped_at (λ (one : Seat). one.slot) g.seats seat.0 (seat_of slot copy) there)

@@ -1,6 +1,7 @@
 -- What a disk shows while it gets a new copy: what it showed, of two copies that differ perhaps one alone, or the new one.
 use Rattle.std.proofs.Common.{◌≡◌, ◌⊎◌, ℕ, Bool, true, false, List, Option, Some, subst, Result, Ok, Err, if◌then◌else◌, refl, ap, sym, ◌∙◌, inl, inr, ⊎_elim, arith}
 use Rattle.std.proofs.lemmas.Bool.{cases_lt, lt-ltb, le-ltb}
+use Rattle.ddf_lemmas.proofs.Options.{same_ok}
 use Rattle.ddf_header.specs.declared.reading.Header.{Header}
 use Rattle.ddf_copy.specs.declared.copy.DiskCopy.{DiskCopy}
 use Rattle.ddf_copy.specs.declared.fault.AnchorFault.{AnchorFault}
@@ -17,9 +18,10 @@ use Rattle.ddf_copy.specs.Shows.{IsNewest, IsSame}
 use Rattle.ddf_copy.specs.Which.{other_of}
 use Rattle.ddf_copy.specs.Written.{is_level}
 use Rattle.ddf_copy.proofs.LevelCopies.{level_from, level_is, written_same}
-use Rattle.ddf_copy.proofs.Newests.{newest_of_one, newest_same}
+use Rattle.ddf_copy.proofs.Newests.{newest_of_one, newest_same, turned}
 use Rattle.ddf_update.specs.declared.prepared.Prepared.{Prepared}
 use Rattle.ddf_update.specs.Update.{AreBoth, AreReadPartly, IsMoving, IsReadAdopting, IsReadPartly}
+use Rattle.ddf_update.proofs.Changing.{other_other}
 use Rattle.ddf_view.specs.View.{View, view_of}
 use Rattle.ddf_group.specs.Shown.{shown_of}
 use Rattle.ddf_history.specs.Reading.{Shown, IsCopyOf}
@@ -44,10 +46,6 @@ pub shows_newest : (size : ℕ) (sector : ℕ → List ℕ) (anchor : Header) �
     → shows_at size sector ≡ told (newest_of size sector anchor)
 shows_newest size sector anchor is = ap (λ (found : Result Header AnchorFault). told_of (shown_of (newest_under size sector found))) is
 
--- What is read is one thing.
-same_ok : {A E : Type 0} (one other : A) → ◌≡◌ {A = Result A E} (Ok one) (Ok other) → one ≡ other
-same_ok one other is = cc
-
 -- A copy says the same in either place.
 written_view : (copy : DiskCopy) (which : Which) → view_of (written_as copy which) ≡ view_of copy
 unfolding view_of
@@ -59,7 +57,7 @@ unfolding shown_of
 one_told newest which copy is = ap told is
 
 -- Level copies are told as one.
-level_told : (newest : Newest) (copy : DiskCopy) → newest ≡ newests.Level copy → told newest ≡ One (view_of copy)
+pub level_told : (newest : Newest) (copy : DiskCopy) → newest ≡ newests.Level copy → told newest ≡ One (view_of copy)
 unfolding shown_of
 level_told newest copy is = ap told is
 
@@ -95,10 +93,6 @@ either_told level primary secondary when = elim (cases_lt primary.header.sequenc
         inl (rw (le-ltb primary.header.sequence secondary.header.sequence (omega arith), le-ltb secondary.header.sequence primary.header.sequence (omega arith), when same) refl)
   ]
 ]
-
--- Level copies are so in either order.
-turned : (one other : DiskCopy) → is_level other one ≡ true → is_level one other ≡ true
-turned one other level = let parts = level_from other one level in level_is one other (sym parts.0) (sym parts.1)
 
 -- A disk with two such copies shows one of them.
 two_told : (size : ℕ) (sector : ℕ → List ℕ) (anchor : Header) (which : Which) (one other : DiskCopy)
@@ -176,11 +170,6 @@ module _ (size : ℕ) (sector : ℕ → List ℕ) (anchor : Header) (anchored : 
   old_shown says Secondary there = secondary_shown says there (copy_of size sector anchor Primary) refl
 
 -- ---- a disk that changes
-
--- The other place of the other one is the first.
-other_other : (which : Which) → other_of (other_of which) ≡ which
-other_other Primary = refl
-other_other Secondary = refl
 
 module _ (size : ℕ) (before now : ℕ → List ℕ) (anchor : Header) (last : Which) (old new : DiskCopy) (says : SaysOne size before)
     (anchored : anchor_at size before ≡ Ok anchor) (last_is : copy_of size before anchor last ≡ Ok old) (is_newest : IsNewest (newest_of size before anchor) old)

@@ -1,16 +1,13 @@
 -- A call keeps the slots of a history, however far it came.
 use Rattle.std.proofs.Common.{◌≡◌, ◌⊎◌, ℕ, ◌+◌, not, ◌&&◌, ◌||◌, Bool, true, false, List, [], ◌∷◌, length, take, if◌then◌else◌, refl, ap, sym, ◌∙◌, subst, inl, inr}
 use Rattle.std.proofs.lemmas.Bool.{and_parts, not-true, or_cases}
+use Rattle.std.proofs.Math.Bool.{or-false}
 use Rattle.ddf_config.specs.Configuration.{Configuration}
 use Rattle.ddf_history.specs.Groups.{groups, has_current}
 use Rattle.ddf_history.specs.Issued.{Past, acknowledge, issue, leave_out, take_off}
 use Rattle.ddf_seats.specs.Group.{GroupValue}
 use Rattle.ddf_seats.specs.Leading.{some}
 use Rattle.ddf_history_steps.specs.Going.{Ends, KeepsSlots, begun, issue_all}
-
-or_false : (b : Bool) → (b || false) ≡ b
-or_false true = refl
-or_false false = refl
 
 module _ (group : List ℕ) (past : Past (groups group)) (readable : ℕ → Bool) (found : GroupValue) where
   -- A change that is issued leaves them.
@@ -53,7 +50,7 @@ module _ (group : List ℕ) (past : Past (groups group)) (readable : ℕ → Boo
             same_returned = same.same_returned;
             same_own = same.same_own;
             still_lost = λ slot was. ap (λ (lost : ℕ → Bool). lost slot) same.same_lost ∙ rw was refl;
-            not_lost = λ slot read. ap (λ (lost : ℕ → Bool). lost slot) same.same_lost ∙ rw read (or_false (past.lost slot));
+            not_lost = λ slot read. ap (λ (lost : ℕ → Bool). lost slot) same.same_lost ∙ rw read (or-false (past.lost slot));
             lost_one = λ slot lost. left_lost slot (sym (ap (λ (all : ℕ → Bool). all slot) same.same_lost) ∙ lost);
           }
       by false =

@@ -13,7 +13,7 @@ use Rattle.ddf_steps.specs.Steps.{Step, step_of}
 use Rattle.ddf_seats.specs.Seated.{levelled}
 
 -- the steps of what is ready
-abbrev steps_in : List ReadyStep → List Step
+abbrev pub steps_in : List ReadyStep → List Step
 steps_in steps = map (λ (one : ReadyStep). one.step) steps
 
 -- The first of the steps that changes are, by the change that it is of, and those behind it.

@@ -3,6 +3,7 @@ use Rattle.std.proofs.Common.{◌≡◌, ◌⊎◌, ℕ, ◌<◌, Bool, true, fa
 use Rattle.std.proofs.lemmas.Bool.{cases_lt, lt-ltb}
 use Rattle.std.proofs.Math.Path.{fun_ext}
 use Rattle.std.specs.Prelude.{nat_lt, slice_get, slice_index}
+use Rattle.ddf_lemmas.proofs.Lists.{some_at_place}
 use Rattle.ddf_bay.specs.Sectors.{Image, IsLeft}
 use Rattle.ddf_bay.specs.State.{BayState, size_of}
 use Rattle.ddf_update.specs.declared.prepared.Prepared.{Prepared}
@@ -13,7 +14,7 @@ use Rattle.ddf_update.specs.Prepared.{IsPrepared, writes_anchor}
 use Rattle.ddf_update.specs.Group.{AreSlots}
 use Rattle.ddf_update.specs.Update.{IsWritten}
 use Rattle.ddf_view.specs.View.{View, view_of}
-use Rattle.ddf_view.proofs.Finds.{place_there, place_within}
+use Rattle.ddf_view.proofs.Finds.{place_within}
 use Rattle.ddf_history.specs.Reading.{Scene}
 use Rattle.ddf_history.specs.Reading.Shown.{Nothing, One}
 use Rattle.ddf_history.specs.Scenes.{scene_of}
@@ -128,7 +129,7 @@ module _ {D : Type 0} (start : BayState D) (slots : List ℕ) (seat : ℕ → Sl
   pub each_shows : (place slot : ℕ) → slice_get slots place ≡ Some slot → IsLeftAs slot (view_of (seat place).new)
   each_shows place slot at =
       let within = place_within slots place slot at in
-      let update = place_there updates place (omega arith) in
+      let update = some_at_place updates place (omega arith) in
       elim (cases_lt place left.turn) [
         | inl earlier ↦ earlier_shows place slot update.0 earlier at update.1
         | inr more ↦ elim (cases_lt left.turn place) [
@@ -179,7 +180,7 @@ module _ {D : Type 0} (start : BayState D) (slots : List ℕ) (seat : ℕ → Sl
     | inl later ↦ absurd (was_not (sym (later_still p s later at) ∙ shown))
     | inr turn ↦
         let within = place_within slots q t also in
-        let update = place_there updates q (omega arith) in
+        let update = some_at_place updates q (omega arith) in
         let is = left.earlier q t update.0 (omega arith) also update.1 in
         scene_at start.sizes image t (are.there q t also)
         ∙ both_show (size_of start t) (image t) (anchor_after (seat q)) (seat q).new is.are_both
@@ -200,7 +201,7 @@ module _ {D : Type 0} (old now : BayState D) (slots : List ℕ) (seat : ℕ → 
   pub changed_shows : (place slot : ℕ) → slice_get slots place ≡ Some slot → scene_of now.sizes image slot ≡ One (new slot)
   changed_shows place slot at =
       let within = place_within slots place slot at in
-      let update = place_there updates place (omega arith) in
+      let update = some_at_place updates place (omega arith) in
       let is = changed.have_changed place slot update.0 within at update.1 in
       let below = are.there place slot at in
       ap (λ (sizes : List ℕ). scene_of sizes image slot) same_sizes
@@ -213,7 +214,7 @@ module _ {D : Type 0} (old now : BayState D) (slots : List ℕ) (seat : ℕ → 
   pub changed_says : (place slot : ℕ) → slice_get slots place ≡ Some slot → SaysOne (size_of now slot) (now.held slot)
   changed_says place slot at =
       let within = place_within slots place slot at in
-      let update = place_there updates place (omega arith) in
+      let update = some_at_place updates place (omega arith) in
       let is = changed.have_changed place slot update.0 within at update.1 in
       subst (λ (sizes : List ℕ). SaysOne (slice_index sizes slot) (now.held slot)) (sym same_sizes)
       (both_say (size_of old slot) (now.held slot) (anchor_after (seat place)) (seat place).new is.are_both)

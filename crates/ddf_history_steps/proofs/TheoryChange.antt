@@ -1,12 +1,13 @@
 -- A change is issued behind the last one, and its new copies are written to its seats.
 use Rattle.std.proofs.Common.{◌≡◌, ◌⊎◌, ℕ, Bool, true, false, length, sym, ◌∙◌, ⊎_elim, arith}
 use Rattle.std.proofs.lemmas.Bool.{true≢false}
+use Rattle.std.proofs.lemmas.Option.{same_Some}
 use Rattle.ddf_history.specs.Reading.{Reading, Scene, IsCopyOf, IsSound}
 use Rattle.ddf_history.specs.Reading.Shown.{One}
 use Rattle.ddf_history.specs.Issued.{Past, is_away, issue, acknowledge}
 use Rattle.ddf_history.specs.Promise.{IsKept, IsStanding}
 use Rattle.ddf_history.specs.Steps.{DoRemain, IsLast, MayFollow, MayWrite, AreWritten, JoinLast, GivesAfter, AllShow, OthersLast}
-use Rattle.ddf_history.proofs.Since.{some_is, in_order, last_since, on_shows}
+use Rattle.ddf_history.proofs.Since.{in_order, last_since, on_shows}
 use Rattle.ddf_history.proofs.Issuing.{issued_kept, follows}
 use Rattle.ddf_history.proofs.Turns.{join_last}
 use Rattle.ddf_history.proofs.Writing.{on_either, written_kept}
@@ -82,7 +83,7 @@ module _ (r : Reading) (sound : IsSound r) (past : Past r) (scene : Scene r.Copy
           (next_issued.each s here)
         where
           first_is : first ≡ next_issued.last
-          first_is = some_is first next_issued.last (sym there ∙ next_issued.is_last)
+          first_is = same_Some first next_issued.last (sym there ∙ next_issued.is_last)
 
           s_joins : r.has_current next_issued.last (past.disk s) ≡ false
           s_joins = rw first_is at joins

@@ -12,7 +12,7 @@ use Rattle.ddf_history.proofs.Since.{which, first_is_copy, on_copy, on_shows, sa
 use Rattle.ddf_history.proofs.Assembling.{read_as}
 
 -- The copy by which a disk that is seen is known is that of its slot, which is read.
-seen_first : {A : Type 0} (readable : Bool) (shown : Shown A) (copy : A) → IsFirstOf (if readable then shown else Nothing) copy
+pub seen_first : {A : Type 0} (readable : Bool) (shown : Shown A) (copy : A) → IsFirstOf (if readable then shown else Nothing) copy
     → (readable ≡ true) × IsFirstOf shown copy
 seen_first true shown copy is = (refl, is)
 seen_first false shown copy is = absurd is

@@ -1,17 +1,17 @@
 -- The last of the changes that were issued.
 use Rattle.std.proofs.Common.{◌≡◌, ℕ, ◌+◌, ◌≤◌, length, get_or, inl, inr, ⊎_elim, arith}
 use Rattle.std.proofs.lemmas.Bool.{cases_lt}
-use Rattle.std.proofs.lemmas.Option.{slice_get-get_or}
+use Rattle.std.proofs.lemmas.Option.{slice_get-get_or, slice_get_within}
+use Rattle.ddf_lemmas.proofs.Lists.{get_last}
 use Rattle.ddf_history.specs.Reading.{Reading}
 use Rattle.ddf_history.specs.Issued.{Changes, issued, acknowledged}
 use Rattle.ddf_history.specs.Steps.{IsLast}
-use Rattle.ddf_history.proofs.Lists.{get_last, get_within}
 use Rattle.ddf_history.proofs.Issuing.{since_more}
 
 -- The last change stands at the end of the list.
 pub issued_count : {r : Reading} (changes : Changes r) (number : ℕ) (last : r.Config) → IsLast changes number last → length changes.issued ≡ number + 1
 issued_count changes number last at_last =
-    let within = get_within changes.issued number last at_last.since.is_there in
+    let within = slice_get_within changes.issued number last at_last.since.is_there in
     elim (cases_lt (number + 1) (length changes.issued)) [
       | inl more ↦
           let late = at_last.since.late in
@@ -24,7 +24,7 @@ issued_count changes number last at_last =
 -- A change that is issued behind it has a greater number than the last acknowledged one.
 pub number_next : {r : Reading} (changes : Changes r) (number : ℕ) (last : r.Config) → IsLast changes number last → changes.acked + 1 ≤ length changes.issued
 number_next changes number last at_last =
-    let within = get_within changes.issued number last at_last.since.is_there in
+    let within = slice_get_within changes.issued number last at_last.since.is_there in
     let late = at_last.since.late in
     omega arith
 
@@ -34,7 +34,7 @@ pub last_next : {r : Reading} (changes : Changes r) (number : ℕ) (last next : 
 last_next changes number last next at_last = record {
   since = let more = number_next changes number last at_last in record { late = omega arith; is_there = get_last changes.issued next };
   none_later = λ i config at. ⊎_elim
-      (λ was. let within = get_within changes.issued i config was.is_there in omega arith)
+      (λ was. let within = slice_get_within changes.issued i config was.is_there in omega arith)
       (λ is. omega (arith, is.0))
       (since_more changes next i config at);
 }

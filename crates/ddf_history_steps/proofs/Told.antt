@@ -5,11 +5,11 @@ use Rattle.std.proofs.lemmas.Option.{get_or_from_slice_get, slice_get-map, slice
 use Rattle.std.proofs.lemmas.List.{length-map}
 use Rattle.std.proofs.Math.Path.{fun_ext}
 use Rattle.std.specs.Prelude.{option_map, slice_get, slice_index_or, unwrap_or}
+use Rattle.ddf_lemmas.proofs.Lists.{bytes_same}
 use Rattle.ddf_bay.specs.State.{BayState, size_of}
 use Rattle.ddf_copy.specs.declared.newest_copy.Newest.{Newest}
 use Rattle.ddf_view.specs.View.{View}
 use Rattle.ddf_view.specs.Reading.{read}
-use Rattle.ddf_view.proofs.Tests.{bytes_same}
 use Rattle.ddf_group.specs.declared.shown.Shown.{Shown as GroupShown}
 use Rattle.ddf_group.specs.declared.shown.Shown.TheVariants as shown
 use Rattle.ddf_group.specs.declared.answer.Assembled.{Assembled}
@@ -178,7 +178,7 @@ chosen_shows slots None group is = by_slot (first_free slots) is
     by_slot (Some slot) same = by_group slot (group_shown (slot_at slots slot)) refl same
 
 -- A group is made of what was found.
-made_of : (newest : List (Option Newest)) (found : Assembled) (g : GroupValue) → group_or_fault newest (Ok found) ≡ Ok g → group_as newest found ≡ g
+pub made_of : (newest : List (Option Newest)) (found : Assembled) (g : GroupValue) → group_or_fault newest (Ok found) ≡ Ok g → group_as newest found ≡ g
 made_of newest found g is = cc
 
 -- What is read of a group's leaders names it.

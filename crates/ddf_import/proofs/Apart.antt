@@ -1,10 +1,12 @@
 -- Where nothing refuses a join, no joining member and no joining array is there.
-use Rattle.std.proofs.Common.{◌≡◌, ℕ, ◌+◌, ◌≤◌, Bool, true, false, ◌||◌, cond, List, [], ◌∷◌, Option, Some, None, find, is_some, nat_eq, option_map, refl}
+use Rattle.std.proofs.Common.{◌≡◌, ℕ, ◌+◌, ◌≤◌, Bool, true, false, cond, List, [], ◌∷◌, Some, None, find, is_some, nat_eq, refl}
 use Rattle.std.specs.Map.{lookup}
 use Rattle.std.specs.List.{AllByRecursion}
+use Rattle.ddf_lemmas.proofs.Lists.{all_weaken}
+use Rattle.ddf_lemmas.proofs.Options.{none_from_not_some, none_from_map}
+use Rattle.ddf_lemmas.proofs.Tests.{or_second}
 use Rattle.ddf_config.specs.declared.member.Member.{Member}
 use Rattle.ddf_config.specs.declared.array.Array.{Array}
-use Rattle.ddf_config.specs.declared.refusal.Refusal.{Refusal}
 use Rattle.ddf_config.specs.declared.refusal.Refusal.TheVariants.{NameTaken}
 use Rattle.ddf_config.specs.Configuration.{Configuration}
 use Rattle.ddf_config.specs.Members.{same_guid}
@@ -16,10 +18,6 @@ use Rattle.ddf_plan.proofs.Afters.{room_left}
 use Rattle.ddf_import.specs.Clash.{array_clash, bound_in, disk_clash, has_array, has_guid, is_there, join_cause, join_refusal, takes_name}
 use Rattle.ddf_import.specs.Joined.{kept_member, kept_members}
 
-none_of : {X : Type 0} (f : X → Refusal) (found : Option X) → option_map f found ≡ None → found ≡ None
-none_of f None h = refl
-none_of f (Some x) h = absurd cc
-
 none_passes : {X : Type 0} (p : X → Bool) (xs : List X) → find p xs ≡ None → AllByRecursion (λ x. p x ≡ false) xs
 none_passes p [] h = tt
 none_passes {X} p (x ∷ xs) h = by (p x) refl h (none_passes p xs)
@@ -28,36 +26,24 @@ none_passes {X} p (x ∷ xs) h = by (p x) refl h (none_passes p xs)
     by true e h rest = absurd cc
     by false e h rest = (e, rest h)
 
-each : {X : Type 0} (P Q : X → Type 0) → ((x : X) → P x → Q x) → (xs : List X) → AllByRecursion P xs → AllByRecursion Q xs
-each P Q f [] all = tt
-each P Q f (x ∷ xs) all = (f x all.0, each P Q f xs all.1)
-
-not_some : {X : Type 0} (found : Option X) → is_some found ≡ false → found ≡ None
-not_some None h = refl
-not_some (Some x) h = absurd cc
-
-or_second : (a b : Bool) → (a || b) ≡ false → b ≡ false
-or_second true b h = absurd cc
-or_second false b h = h
-
 module _ (config joining : Configuration) (free : join_cause config joining ≡ None) where
   pub members_fresh : AllByRecursion (λ (entry : ℕ × Member). lookup (nat_eq entry.0) (kept_members config) ≡ None) joining.members
   members_fresh =
-      each (λ entry. is_there config.members entry ≡ false) (λ (entry : ℕ × Member). lookup (nat_eq entry.0) (kept_members config) ≡ None)
+      all_weaken (λ entry. is_there config.members entry ≡ false) (λ (entry : ℕ × Member). lookup (nat_eq entry.0) (kept_members config) ≡ None)
       (λ entry away. absent_changed (kept_member config) (nat_eq entry.0) config.members
-      (not_some (lookup (nat_eq entry.0) config.members) (or_second (has_guid config.members entry.1.guid) (is_some (lookup (nat_eq entry.0) config.members)) away)))
+      (none_from_not_some (lookup (nat_eq entry.0) config.members) (or_second (has_guid config.members entry.1.guid) (is_some (lookup (nat_eq entry.0) config.members)) away)))
       joining.members
       (none_passes (is_there config.members) joining.members
-      (none_of _ (find (is_there config.members) joining.members)
+      (none_from_map _ (find (is_there config.members) joining.members)
       (all_pass [] (disk_clash config.members joining.members)
       (array_clash config.arrays joining.arrays ∷ bound_in config joining ∷ bound_in joining config ∷ refuse_if (takes_name config joining) NameTaken ∷ []) free)))
 
   pub arrays_fresh : AllByRecursion (λ (entry : List ℕ × Array). lookup (same_guid entry.0) config.arrays ≡ None) joining.arrays
   arrays_fresh =
-      each (λ entry. has_array config.arrays entry ≡ false) (λ (entry : List ℕ × Array). lookup (same_guid entry.0) config.arrays ≡ None)
-      (λ entry away. not_some (lookup (same_guid entry.0) config.arrays) away) joining.arrays
+      all_weaken (λ entry. has_array config.arrays entry ≡ false) (λ (entry : List ℕ × Array). lookup (same_guid entry.0) config.arrays ≡ None)
+      (λ entry away. none_from_not_some (lookup (same_guid entry.0) config.arrays) away) joining.arrays
       (none_passes (has_array config.arrays) joining.arrays
-      (none_of _ (find (has_array config.arrays) joining.arrays)
+      (none_from_map _ (find (has_array config.arrays) joining.arrays)
       (all_pass (disk_clash config.members joining.members ∷ []) (array_clash config.arrays joining.arrays)
       (bound_in config joining ∷ bound_in joining config ∷ refuse_if (takes_name config joining) NameTaken ∷ []) free)))
 

@@ -1,12 +1,12 @@
 -- What an import is asked, by its parts, and one that isn't readied.
 use Rattle.std.proofs.Common.{◌≡◌, ℕ, Bool, true, false, List, Option, Some, None, Result, Ok, Err, inl, ap, subst, sym, ◌∙◌}
 use Rattle.std.specs.Prelude.{slice_get, slice_index_or}
+use Rattle.ddf_lemmas.proofs.Lists.{in_map}
 use Rattle.ddf_bay.specs.ReadsOnly.{ReadsOnly}
 use Rattle.ddf_config.specs.declared.refusal.Refusal.{Refusal}
 use Rattle.ddf_config.specs.declared.refusal.Refusal.TheVariants.{NoGroup}
 use Rattle.ddf_config.specs.declared.seat.Seat.{Seat}
 use Rattle.ddf_config.specs.Refusals.{first_refusal}
-use Rattle.ddf_rewrite.proofs.Lists.{map_get}
 use Rattle.ddf_seats.specs.declared.fault.GroupFault.{GroupFault}
 use Rattle.ddf_seats.specs.declared.fault.GroupFault.TheVariants as faults
 use Rattle.ddf_seats.specs.declared.seated.Seated.{Seated}
@@ -85,7 +85,7 @@ out_asked None None true (Err faults.Memory) slot is = absurd cc
 seat_seen : (group : GroupValue) (left : List Bool) → IsAssembledGroup group → LeaveNone left group.newest → (place : ℕ) (seat : Seat) → slice_get group.seats place ≡ Some seat
     → slice_index_or left seat.slot false ≡ false
 seat_seen group left assembled none place seat at =
-    let found = map_get (λ (disk : Seated). disk.seat) (seated group) place seat (subst (λ (seats : List Seat). slice_get seats place ≡ Some seat) (sym assembled.are_seated) at) in
+    let found = in_map (λ (disk : Seated). disk.seat) (seated group) place seat (subst (λ (seats : List Seat). slice_get seats place ≡ Some seat) (sym assembled.are_seated) at) in
     let disk = seated_is group place found.0 found.1 in
     subst (λ (one : Seat). slice_index_or left one.slot false ≡ false) found.2 (none found.0.seat.slot disk.found disk.is_found)
 

@@ -5,6 +5,7 @@ use Rattle.ddf_bay.specs.Moments.{StopsLeave}
 use Rattle.ddf_bay.specs.ReadsOnly.{LookFailed, ReadsOnly}
 use Rattle.ddf_bay.specs.State.{BayState}
 use Rattle.ddf_bay.proofs.Looks.{reads_then}
+use Rattle.ddf_bay.proofs.Steps.{rose_since}
 use Rattle.ddf_group.specs.declared.answer.Assembly.{Assembly}
 use Rattle.ddf_seats.specs.Group.{GroupValue}
 use Rattle.ddf_assembly.specs.Group.{group_of}
@@ -13,7 +14,7 @@ use Rattle.ddf_answer.specs.Answers.{failure_of}
 use Rattle.ddf_answer.specs.Call.{work_of}
 use Rattle.ddf_answer.specs.declared.failure.Failure.{Failure}
 use Rattle.ddf_answer.specs.declared.failure.Failure.TheVariants.{Conflict, Disk, Memory, Refused, Split}
-use Rattle.ddf_answer.proofs.Rises.{look_still, rose_later}
+use Rattle.ddf_answer.proofs.Rises.{look_still}
 use Rattle.ddf_group_commands.specs.Change.{is_done}
 use Rattle.ddf_group_commands.specs.GroupRead.{IsFoundBy, IsGroupRead, group_or}
 use Rattle.ddf_group_commands.specs.Writing.{IsLeftWriting}
@@ -26,8 +27,8 @@ use Rattle.ddf_import_command.proofs.Keeping.{join_since, reads_join}
 look_later : {D : Type 0} (old middle new : BayState D) (slot : ℕ) → middle.sizes ≡ old.sizes → old.failed_reads slot ≤ middle.failed_reads slot → old.failed_writes slot ≤ middle.failed_writes slot
     → LookFailed middle new slot → LookFailed old new slot
 look_later old middle new slot same reads writes failed = ⊎_elim
-    (λ read. inl (rose_later (old.failed_reads slot) (middle.failed_reads slot) (new.failed_reads slot) reads read))
-    (λ synced. inr (rw same at synced.0, rose_later (old.failed_writes slot) (middle.failed_writes slot) (new.failed_writes slot) writes synced.1))
+    (λ read. inl (rose_since (old.failed_reads slot) (middle.failed_reads slot) (new.failed_reads slot) reads read))
+    (λ synced. inr (rw same at synced.0, rose_since (old.failed_writes slot) (middle.failed_writes slot) (new.failed_writes slot) writes synced.1))
     failed
 
 -- Counts of faults don't fall.
@@ -170,7 +171,7 @@ module _ {D : Type 0} (tells : Type 0) where
           are_asked = fault.are_asked;
           is_seat = fault.is_seat;
           there = rw all.same_sizes at fault.there;
-          rose = rose_later (old.failed_writes slot) (middle.failed_writes slot) (new.failed_writes slot) (whole.writes slot) fault.rose;
+          rose = rose_since (old.failed_writes slot) (middle.failed_writes slot) (new.failed_writes slot) (whole.writes slot) fault.rose;
         })
         imported_before new out asked (Err Memory) done = reads_then all done
         imported_before new out asked (Err (Conflict i j sequence differ)) done = absurd done

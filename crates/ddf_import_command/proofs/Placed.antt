@@ -1,13 +1,14 @@
 -- Where an import is written: to slots of seats of either group, none of which is one of both.
-use Rattle.std.proofs.Common.{◌≡◌, ◌≢◌, ◌⊎◌, ℕ, zero, suc, ◌<◌, ◌^◌, ◌==◌, ◌&&◌, ◌||◌, Bool, true, false, not, List, [], ◌∷◌, length, Some, inl, inr, ⊎_elim, refl, ap, sym, subst, ◌∙◌}
-use Rattle.std.proofs.lemmas.Bool.{and_parts, eq-eqb, false≢true}
+use Rattle.std.proofs.Common.{◌≡◌, ◌≢◌, ◌⊎◌, ℕ, ◌<◌, ◌^◌, ◌==◌, ◌&&◌, Bool, true, not, List, [], length, Some, inl, inr, ⊎_elim, refl, ap, sym, subst, ◌∙◌}
+use Rattle.std.proofs.lemmas.Bool.{and_parts, eq-eqb, false≢true, not-true}
 use Rattle.std.proofs.lemmas.List.{length-map}
 use Rattle.std.specs.Prelude.{slice_get, slice_index}
-use Rattle.std.specs.List.{AllByRecursion, list_any}
+use Rattle.std.specs.List.{AllByRecursion}
+use Rattle.ddf_lemmas.proofs.Lists.{all_from, in_map, list_all_read, mapped_at, none_any}
 use Rattle.ddf_bay.specs.State.{BayState}
 use Rattle.ddf_bytes.specs.Counts.{Rose}
 use Rattle.ddf_config.specs.declared.seat.Seat.{Seat}
-use Rattle.ddf_rewrite.proofs.Lists.{all_at, all_by_get, get_map, list_all_get, map_get}
+use Rattle.ddf_rewrite.proofs.Lists.{all_at}
 use Rattle.ddf_update.specs.Group.{IsOneOf, LieOnSlots}
 use Rattle.ddf_update.specs.Prepared.{LiesOn}
 use Rattle.ddf_update.proofs.Lies.{lies_on}
@@ -41,30 +42,12 @@ use Rattle.ddf_answer.specs.Call.{work_of}
 use Rattle.ddf_group_commands.specs.GroupRead.{IsReadFrom}
 use Rattle.ddf_import_command.specs.Import.{IsImportReady, IsJoinFault, import_asked, is_own}
 
-or_first : (a b : Bool) → (a || b) ≡ false → a ≡ false
-or_first true b h = absurd cc
-or_first false b h = refl
-
-or_second : (a b : Bool) → (a || b) ≡ false → b ≡ false
-or_second true b h = absurd cc
-or_second false b h = h
-
--- No item of a list passes a test that none passes.
-none_any : {X : Type 0} (test : X → Bool) (xs : List X) (k : ℕ) (x : X) → list_any test xs ≡ false → slice_get xs k ≡ Some x → test x ≡ false
-none_any test [] k x none at = absurd cc
-none_any test (y ∷ ys) zero x none at = let same : y ≡ x = cc in sym (ap test same) ∙ or_first (test y) (list_any test ys) none
-none_any test (y ∷ ys) (suc k) x none at = none_any test ys k x (or_second (test y) (list_any test ys) none) at
-
-not_true : (b : Bool) → not b ≡ true → b ≡ false
-not_true true h = absurd cc
-not_true false h = refl
-
 seats_one : (seats : List Seat) (place : ℕ) (seat : Seat) → slice_get seats place ≡ Some seat → IsOneOf (slots_of seats) seat.slot
-seats_one seats place seat at = record { place = place; is_there = get_map (λ (one : Seat). one.slot) seats place seat at }
+seats_one seats place seat at = record { place = place; is_there = mapped_at (λ (one : Seat). one.slot) seats place seat at }
 
 -- the slot of each of a group's disks is there, and its copy can stand on it
 seated_placed : (sizes : List ℕ) (group : GroupValue) → HaveAnchors sizes group.newest → AllByRecursion (HasPlace sizes) (seated group)
-seated_placed sizes group have = all_by_get (HasPlace sizes) (seated group) (λ k disk at.
+seated_placed sizes group have = all_from (HasPlace sizes) (seated group) (λ k disk at.
     let own = seated_is group k disk at in
     let here = have disk.seat.slot own.found own.is_found in
     record { there = here.0; anchor = here.1.anchor; under = standing_under (slice_index sizes disk.seat.slot) here.1.anchor own.found disk.copy own.stands here.1.under })
@@ -85,7 +68,7 @@ module _ {D : Type 0} (tells : Type 0) (old : BayState D) (native other : GroupV
   kept_seat : (place : ℕ) (seat : Seat) → slice_get other.seats place ≡ Some seat → (is_kept native.newest seat.slot ≡ true) × (not (is_own native.seats seat.slot) ≡ true)
   kept_seat place seat at =
       and_parts (is_kept native.newest seat.slot) (not (is_own native.seats seat.slot))
-      (list_all_get (λ (one : Seat). is_kept native.newest one.slot && not (is_own native.seats one.slot)) other.seats place seat ready.are_kept at)
+      (list_all_read (λ (one : Seat). is_kept native.newest one.slot && not (is_own native.seats one.slot)) other.seats place seat ready.are_kept at)
 
   pub kept_each : (place : ℕ) (seat : Seat) → slice_get other.seats place ≡ Some seat → is_kept native.newest seat.slot ≡ true
   kept_each place seat at = (kept_seat place seat at).0
@@ -97,12 +80,12 @@ module _ {D : Type 0} (tells : Type 0) (old : BayState D) (native other : GroupV
       let its = seated_is other k disk at in
       let own = seated_is native j before there in
       let none = none_any (λ (seat : Seat). seat.slot == disk.seat.slot) native.seats own.place before.seat
-      (not_true (is_own native.seats disk.seat.slot) (kept_seat its.place disk.seat its.is_seat).1) own.is_seat in
+      (not-true (is_own native.seats disk.seat.slot) (kept_seat its.place disk.seat its.is_seat).1) own.is_seat in
       false≢true (sym none ∙ ap (λ (slot : ℕ). slot == disk.seat.slot) same ∙ eq-eqb disk.seat.slot disk.seat.slot refl)
 
   pub are_apart : AreApart (disks_recovered timestamp native) (seated other)
-  are_apart = all_by_get (λ (disk : Seated). AllByRecursion (λ (own : Seated). disk.seat.slot ≢ own.seat.slot) (disks_recovered timestamp native)) (seated other) (λ k disk at.
-      all_by_get (λ (own : Seated). disk.seat.slot ≢ own.seat.slot) (disks_recovered timestamp native) (λ i own there same.
+  are_apart = all_from (λ (disk : Seated). AllByRecursion (λ (own : Seated). disk.seat.slot ≢ own.seat.slot) (disks_recovered timestamp native)) (seated other) (λ k disk at.
+      all_from (λ (own : Seated). disk.seat.slot ≢ own.seat.slot) (disks_recovered timestamp native) (λ i own there same.
       let on = recovered_on timestamp native i own there in
       apart_before k disk at on.0 on.1 on.2 (on.3 ∙ sym same)))
 
@@ -144,13 +127,13 @@ module _ {D : Type 0} (tells : Type 0) (old : BayState D) (native other : GroupV
       record {
         are_slots = record {
           there = λ place slot at.
-              let found = map_get (λ (disk : Seated). disk.seat.slot) written place slot at in
+              let found = in_map (λ (disk : Seated). disk.seat.slot) written place slot at in
               subst (λ (n : ℕ). n < length old.sizes) found.2 (place_of place found.0 found.1).there;
           differ = λ first second slot at again. order_differ join.one.step.disks (ready.follows.slots_rise rise) first second slot at again;
         };
         counted = ready.follows.are_prepared.counted ∙ sym (length-map written (λ (disk : Seated). disk.seat.slot));
         lie_on = λ place slot update at again.
-            let found = map_get (λ (disk : Seated). disk.seat.slot) written place slot at in
+            let found = in_map (λ (disk : Seated). disk.seat.slot) written place slot at in
             let here = place_of place found.0 found.1 in
             subst (λ (n : ℕ). LiesOn (slice_index old.sizes n) update) found.2
             (lies_on (slice_index old.sizes found.0.seat.slot) here.anchor found.0.copy found.0.last found.0.mode update here.under (ready.follows.are_prepared.each place found.0 update found.1 again));
@@ -164,17 +147,17 @@ module _ {D : Type 0} (tells : Type 0) (old : BayState D) (native other : GroupV
 
   on_seats : AllByRecursion IsOnSeat (join_disks timestamp native other)
   on_seats = both_have IsOnSeat (disks_recovered timestamp native) (seated other)
-      (all_by_get IsOnSeat (disks_recovered timestamp native) (λ k disk at.
+      (all_from IsOnSeat (disks_recovered timestamp native) (λ k disk at.
       let on = recovered_on timestamp native k disk at in
       let own = seated_is native on.0 on.1 on.2 in
       inl (subst (λ (slot : ℕ). IsOneOf (slots_of native.seats) slot) on.3 (seats_one native.seats own.place on.1.seat own.is_seat))))
-      (all_by_get IsOnSeat (seated other) (λ k disk at.
+      (all_from IsOnSeat (seated other) (λ k disk at.
       let own = seated_is other k disk at in
       inr (seats_one other.seats own.place disk.seat own.is_seat)))
 
   written_on_seat : (slot : ℕ) → IsOneOf (join_slots join) slot → IsOneOf (slots_of native.seats) slot ⊎ IsOneOf (slots_of other.seats) slot
   written_on_seat slot one =
-      let found = map_get (λ (disk : Seated). disk.seat.slot) (in_order join.one.step.disks) one.place slot one.is_there in
+      let found = in_map (λ (disk : Seated). disk.seat.slot) (in_order join.one.step.disks) one.place slot one.is_there in
       let made = order_from join.one.step.disks one.place found.0 found.1 in
       let all = subst (λ (step : Step). AllByRecursion (IsRewritten (join_disks timestamp native other) step.config) step.disks) (sym step_joined)
       (disks_rewritten timestamp (join_leaders timestamp native other) (join_config native other) (join_disks timestamp native other)) in
@@ -191,10 +174,10 @@ module _ {D : Type 0} (tells : Type 0) (old : BayState D) (native other : GroupV
     is_seat = one;
     there = ⊎_elim
         (λ own.
-        let found = map_get (λ (seat : Seat). seat.slot) native.seats own.place slot own.is_there in
+        let found = in_map (λ (seat : Seat). seat.slot) native.seats own.place slot own.is_there in
         subst (λ (n : ℕ). n < length old.sizes) found.2 (from.seats own.place found.0 found.1).0)
         (λ its.
-        let found = map_get (λ (seat : Seat). seat.slot) other.seats its.place slot its.is_there in
+        let found = in_map (λ (seat : Seat). seat.slot) other.seats its.place slot its.is_there in
         subst (λ (n : ℕ). n < length old.sizes) found.2 (also.seats its.place found.0 found.1).0)
         one;
     rose = rose;

@@ -2,10 +2,11 @@
 use Rattle.std.proofs.Common.{◌≡◌, ℕ, Bool, ◌<◌, ◌^◌, List, [], ◌∷◌, ◌++◌, length, Option, Some, None, refl, ap, sym, subst, ◌∙◌}
 use Rattle.std.specs.Prelude.{option_map, option_to_list, slice_get}
 use Rattle.std.specs.List.{AllByRecursion}
+use Rattle.ddf_lemmas.proofs.Lists.{all_from}
 use Rattle.ddf_bay.specs.State.{BayState}
 use Rattle.ddf_config.specs.declared.seat.Seat.{Seat}
 use Rattle.ddf_copy.specs.declared.newest_copy.Newest.{Newest}
-use Rattle.ddf_rewrite.proofs.Lists.{all_at, all_by_get}
+use Rattle.ddf_rewrite.proofs.Lists.{all_at}
 use Rattle.ddf_update.specs.Changes.{AreChanged, MayChangeAll, SlotChange}
 use Rattle.ddf_seats.specs.declared.seated.Seated.{Seated}
 use Rattle.ddf_steps.specs.Committed.{AreSettled, IsRewritten, slots_of, synced}
@@ -64,7 +65,7 @@ module _ {D : Type 0} (tells : Type 0) (old : BayState D) (native other : GroupV
 
   module _ (told : tells) where
     same_newest : AllByRecursion (λ disk. slice_get behind.newest disk.seat.slot ≡ slice_get other.newest disk.seat.slot) (seated other)
-    same_newest = all_by_get (λ (disk : Seated). slice_get behind.newest disk.seat.slot ≡ slice_get other.newest disk.seat.slot) (seated other) (λ k disk at.
+    same_newest = all_from (λ (disk : Seated). slice_get behind.newest disk.seat.slot ≡ slice_get other.newest disk.seat.slot) (seated other) (λ k disk at.
         let own = seated_is other k disk at in
         let kept = kept_there native.newest disk.seat.slot
         (kept_each tells old native other timestamp left_out recovery join from also time ready own.place disk.seat own.is_seat) in

@@ -1,8 +1,11 @@
 -- The disks of both groups of a join are on rising slots, and those that join are written last.
-use Rattle.std.proofs.Common.{◌≡◌, ◌≢◌, ℕ, ◌<◌, Bool, true, false, not, cond, List, [], ◌∷◌, ◌++◌, map, filter, refl, sym, ap, subst, ◌∙◌, arith, if◌then◌else◌}
+use Rattle.std.proofs.Common.{◌≡◌, ◌≢◌, ℕ, ◌<◌, Bool, true, false, not, cond, List, [], ◌∷◌, ◌++◌, map, filter, refl, sym, ap, subst, ◌∙◌, arith, if◌then◌else◌, append-nil}
 use Rattle.std.proofs.lemmas.Bool.{false≢true, ltb-false, ltb-true}
 use Rattle.std.specs.List.{AllByRecursion}
 use Rattle.std.specs.Str.{bytes_eq}
+use Rattle.std.proofs.Math.Seq.{append_snoc}
+use Rattle.std.proofs.lemmas.List.Elements.{filter-append}
+use Rattle.ddf_lemmas.proofs.Lists.{all_unmapped, all_weaken, filter_whole}
 use Rattle.ddf_config.specs.declared.seat.Seat.{Seat}
 use Rattle.ddf_config.specs.Configuration.{Configuration}
 use Rattle.ddf_rewrite.specs.Before.{Before}
@@ -18,40 +21,7 @@ use Rattle.ddf_seats.specs.Seated.{seated, seats_in, is_adopted}
 use Rattle.ddf_steps.specs.Steps.{disks_after, in_order, mode_of, rewritten, stays_in}
 use Rattle.ddf_seats.specs.Changing.{SlotsRise}
 use Rattle.ddf_joining.proofs.BothSides.{all_placed}
-
--- ---- lists
-
-filter_append : {X : Type 0} (p : X → Bool) (xs ys : List X) → filter p (xs ++ ys) ≡ filter p xs ++ filter p ys
-filter_append p [] ys = refl
-filter_append {X = X} p (x ∷ xs) ys = by (p x) (filter_append p xs ys)
-  where
-    by : (b : Bool) → filter p (xs ++ ys) ≡ filter p xs ++ filter p ys → cond b (x ∷ filter p (xs ++ ys)) (filter p (xs ++ ys)) ≡ cond b (x ∷ filter p xs) (filter p xs) ++ filter p ys
-    by true rest = ap (λ l. x ∷ l) rest
-    by false rest = rest
-
-filter_all : {X : Type 0} (p : X → Bool) (xs : List X) → AllByRecursion (λ x. p x ≡ true) xs → filter p xs ≡ xs
-filter_all p [] all = refl
-filter_all {X = X} p (x ∷ xs) all = by (p x) all.0 (filter_all p xs all.1)
-  where
-    by : (b : Bool) → b ≡ true → filter p xs ≡ xs → cond b (x ∷ filter p xs) (filter p xs) ≡ x ∷ xs
-    by true e rest = ap (λ l. x ∷ l) rest
-    by false e rest = absurd (false≢true e)
-
-filter_none : {X : Type 0} (p : X → Bool) (xs : List X) → AllByRecursion (λ x. p x ≡ false) xs → filter p xs ≡ []
-filter_none p [] all = refl
-filter_none {X = X} p (x ∷ xs) all = by (p x) all.0 (filter_none p xs all.1)
-  where
-    by : (b : Bool) → b ≡ false → filter p xs ≡ [] → cond b (x ∷ filter p xs) (filter p xs) ≡ []
-    by true e rest = absurd (false≢true (sym e))
-    by false e rest = rest
-
-each : {X : Type 0} (P Q : X → Type 0) → ((x : X) → P x → Q x) → (xs : List X) → AllByRecursion P xs → AllByRecursion Q xs
-each P Q f [] all = tt
-each P Q f (x ∷ xs) all = (f x all.0, each P Q f xs all.1)
-
-from_mapped : {X Y : Type 0} (P : Y → Type 0) (f : X → Y) (xs : List X) → AllByRecursion P (map f xs) → AllByRecursion (λ x. P (f x)) xs
-from_mapped P f [] all = tt
-from_mapped P f (x ∷ xs) all = (all.0, from_mapped P f xs all.1)
+use Rattle.ddf_joining.proofs.JoinHoldable.{filter_none}
 
 -- ---- one disk among others
 
@@ -64,12 +34,12 @@ behind_it disk disks = filter (is_behind disk) disks
 -- Where one is behind it, so are all on later slots.
 all_behind : (disk first : Seated) (disks : List Seated) → is_behind disk first ≡ true → AllByRecursion (λ (other : Seat). first.seat.slot < other.slot) (seats_in disks) → AllByRecursion (λ other. is_behind disk other ≡ true) disks
 all_behind disk first disks h above =
-    each (λ (other : Seated). first.seat.slot < other.seat.slot) (λ (other : Seated). is_behind disk other ≡ true)
+    all_weaken (λ (other : Seated). first.seat.slot < other.seat.slot) (λ (other : Seated). is_behind disk other ≡ true)
     (λ other more. let less = ltb-true disk.seat.slot first.seat.slot h in grind arith)
-    disks (from_mapped (λ (other : Seat). first.seat.slot < other.slot) (λ (disk : Seated). disk.seat) disks above)
+    disks (all_unmapped (λ (other : Seat). first.seat.slot < other.slot) (λ (disk : Seated). disk.seat) disks above)
 
 none_before : (disk : Seated) (disks : List Seated) → AllByRecursion (λ other. is_behind disk other ≡ true) disks → before_it disk disks ≡ []
-none_before disk disks all = filter_none (λ other. not (is_behind disk other)) disks (each (λ (other : Seated). is_behind disk other ≡ true) (λ (other : Seated). not (is_behind disk other) ≡ false) (λ other h. ap not h) disks all)
+none_before disk disks all = filter_none (λ other. not (is_behind disk other)) disks (all_weaken (λ (other : Seated). is_behind disk other ≡ true) (λ (other : Seated). not (is_behind disk other) ≡ false) (λ other h. ap not h) disks all)
 
 parted : (disk : Seated) (disks : List Seated) → SlotsRise (seats_in disks) → before_it disk disks ++ behind_it disk disks ≡ disks
 parted disk [] rise = refl
@@ -79,7 +49,7 @@ parted disk (first ∷ disks) rise = by (is_behind disk first) refl (parted disk
         → cond (not b) (first ∷ before_it disk disks) (before_it disk disks) ++ cond b (first ∷ behind_it disk disks) (behind_it disk disks) ≡ first ∷ disks
     by true e rest =
         let all = all_behind disk first disks e rise.0 in
-        ap (λ (l : List Seated). l ++ first ∷ behind_it disk disks) (none_before disk disks all) ∙ ap (λ (l : List Seated). first ∷ l) (filter_all (is_behind disk) disks all)
+        ap (λ (l : List Seated). l ++ first ∷ behind_it disk disks) (none_before disk disks all) ∙ ap (λ (l : List Seated). first ∷ l) (filter_whole (is_behind disk) disks all)
     by false e rest = ap (λ (l : List Seated). first ∷ l) rest
 
 -- A disk on a slot of its own is placed where it rises.
@@ -93,15 +63,15 @@ placed_rises disk (first ∷ disks) rise differ = by (is_behind disk first) refl
         let less = ltb-true disk.seat.slot first.seat.slot e in
         let all = all_behind disk first disks e rise.0 in
         let above : AllByRecursion (λ (other : Seat). disk.seat.slot < other.slot) (seats_in disks) =
-        each (λ (other : Seat). first.seat.slot < other.slot) (λ (other : Seat). disk.seat.slot < other.slot) (λ other more. omega (arith, less, more)) (seats_in disks) rise.0 in
+        all_weaken (λ (other : Seat). first.seat.slot < other.slot) (λ (other : Seat). disk.seat.slot < other.slot) (λ other more. omega (arith, less, more)) (seats_in disks) rise.0 in
         subst (λ (l : List Seated). SlotsRise (seats_in (l ++ disk ∷ first ∷ behind_it disk disks))) (sym (none_before disk disks all))
-        (subst (λ (l : List Seated). SlotsRise (seats_in (disk ∷ first ∷ l))) (sym (filter_all (is_behind disk) disks all)) ((less, above), rise))
+        (subst (λ (l : List Seated). SlotsRise (seats_in (disk ∷ first ∷ l))) (sym (filter_whole (is_behind disk) disks all)) ((less, above), rise))
     by false e rest =
         let most = ltb-false disk.seat.slot first.seat.slot e in
         let apart = differ.0 in
         let more : first.seat.slot < disk.seat.slot = omega (arith, most, apart) in (
           all_mapped (λ (other : Seat). first.seat.slot < other.slot) (λ (one : Seated). one.seat) (placed disks disk)
-              (all_placed (λ (other : Seated). first.seat.slot < other.seat.slot) disks disk (from_mapped (λ (other : Seat). first.seat.slot < other.slot) (λ (one : Seated). one.seat) disks rise.0) more),
+              (all_placed (λ (other : Seated). first.seat.slot < other.seat.slot) disks disk (all_unmapped (λ (other : Seat). first.seat.slot < other.slot) (λ (one : Seated). one.seat) disks rise.0) more),
           rest,
         )
 
@@ -123,9 +93,9 @@ both_rise native (disk ∷ joining) rise also apart =
 -- One that fails a test changes nothing of those that pass it.
 kept_placed : (p : Seated → Bool) (disks : List Seated) (disk : Seated) → SlotsRise (seats_in disks) → p disk ≡ false → filter p (placed disks disk) ≡ filter p disks
 kept_placed p disks disk rise fails =
-    filter_append p (before_it disk disks) (disk ∷ behind_it disk disks)
+    filter-append p (before_it disk disks) (disk ∷ behind_it disk disks)
     ∙ ap (λ (b : Bool). filter p (before_it disk disks) ++ cond b (disk ∷ filter p (behind_it disk disks)) (filter p (behind_it disk disks))) fails
-    ∙ sym (filter_append p (before_it disk disks) (behind_it disk disks))
+    ∙ sym (filter-append p (before_it disk disks) (behind_it disk disks))
     ∙ ap (filter p) (parted disk disks rise)
 
 -- One that passes it, on a slot behind them, is the last of them.
@@ -138,25 +108,17 @@ none_passes p disk (first ∷ disks) all = by (is_behind disk first) refl (p fir
     by true e false f rest = ap (λ (a : Bool). cond a (first ∷ filter p (behind_it disk disks)) (filter p (behind_it disk disks))) f ∙ rest
     by false e a f rest = rest
 
-append_none : {X : Type 0} (xs : List X) → xs ++ [] ≡ xs
-append_none [] = refl
-append_none (x ∷ xs) = ap (λ l. x ∷ l) (append_none xs)
-
 added_placed : (p : Seated → Bool) (disks : List Seated) (disk : Seated) → SlotsRise (seats_in disks) → p disk ≡ true → AllByRecursion (λ other. p other ≡ true → other.seat.slot < disk.seat.slot) disks
     → filter p (placed disks disk) ≡ filter p disks ++ disk ∷ []
 added_placed p disks disk rise passes all =
     let none = none_passes p disk disks all in
     let early : filter p (before_it disk disks) ≡ filter p disks =
-    sym (append_none (filter p (before_it disk disks))) ∙ ap (λ (l : List Seated). filter p (before_it disk disks) ++ l) (sym none)
-    ∙ sym (filter_append p (before_it disk disks) (behind_it disk disks)) ∙ ap (filter p) (parted disk disks rise) in
-    filter_append p (before_it disk disks) (disk ∷ behind_it disk disks)
+    sym (append-nil (filter p (before_it disk disks))) ∙ ap (λ (l : List Seated). filter p (before_it disk disks) ++ l) (sym none)
+    ∙ sym (filter-append p (before_it disk disks) (behind_it disk disks)) ∙ ap (filter p) (parted disk disks rise) in
+    filter-append p (before_it disk disks) (disk ∷ behind_it disk disks)
     ∙ ap (λ (b : Bool). filter p (before_it disk disks) ++ cond b (disk ∷ filter p (behind_it disk disks)) (filter p (behind_it disk disks))) passes
     ∙ ap (λ (l : List Seated). filter p (before_it disk disks) ++ disk ∷ l) none
     ∙ ap (λ (l : List Seated). l ++ disk ∷ []) early
-
-append_more : {X : Type 0} (xs : List X) (y : X) (ys : List X) → (xs ++ y ∷ []) ++ ys ≡ xs ++ y ∷ ys
-append_more [] y ys = refl
-append_more (x ∷ xs) y ys = ap (λ l. x ∷ l) (append_more xs y ys)
 
 module _ (p : Seated → Bool) where
   pub native_kept : (native joining : List Seated) → SlotsRise (seats_in native) → SlotsRise (seats_in joining) → AreApart native joining → AllByRecursion (λ disk. p disk ≡ false) joining
@@ -169,11 +131,11 @@ module _ (p : Seated → Bool) where
   pub joining_kept : (native joining : List Seated) → SlotsRise (seats_in native) → SlotsRise (seats_in joining) → AreApart native joining → AllByRecursion (λ disk. p disk ≡ true) joining
       → AllByRecursion (λ disk. AllByRecursion (λ other. p other ≡ true → other.seat.slot < disk.seat.slot) native) joining
       → filter p (both_disks native joining) ≡ filter p native ++ joining
-  joining_kept native [] rise also apart pass early = sym (append_none (filter p native))
+  joining_kept native [] rise also apart pass early = sym (append-nil (filter p native))
   joining_kept native (disk ∷ joining) rise also apart pass early =
       joining_kept (placed native disk) joining (placed_rises disk native rise apart.0) also.1 (still_apart disk native joining apart.1 also.0) pass.1 (later joining also.0 early.1)
       ∙ ap (λ (l : List Seated). l ++ joining) (added_placed p native disk rise pass.0 early.0)
-      ∙ append_more (filter p native) disk joining
+      ∙ append_snoc (filter p native) disk joining
     where
       later : (some : List Seated) → AllByRecursion (λ (other : Seat). disk.seat.slot < other.slot) (seats_in some)
           → AllByRecursion (λ one. AllByRecursion (λ other. p other ≡ true → other.seat.slot < one.seat.slot) native) some
@@ -224,7 +186,7 @@ module _ (timestamp : ℕ) (leaders : Before) (config : Configuration) where
       → AllByRecursion (λ disk. AllByRecursion (λ other. adopts other ≡ true → other.seat.slot < disk.seat.slot) native) joining
   no_native native [] own = tt
   no_native native (disk ∷ joining) own = (
-    each (λ (other : Seated). bytes_eq other.copy.header.guid config.group ≡ true) (λ (other : Seated). adopts other ≡ true → other.seat.slot < disk.seat.slot)
+    all_weaken (λ (other : Seated). bytes_eq other.copy.header.guid config.group ≡ true) (λ (other : Seated). adopts other ≡ true → other.seat.slot < disk.seat.slot)
         (λ other h k. absurd (false≢true (sym (adopts_own other h) ∙ k))) native own,
     no_native native joining own,
   )
@@ -232,11 +194,11 @@ module _ (timestamp : ℕ) (leaders : Before) (config : Configuration) where
   pub natives_first : (native joining : List Seated) → SlotsRise (seats_in native) → SlotsRise (seats_in joining) → AreApart native joining → IsOfGroupAll config native → IsOfAnother config joining
       → in_order (after (both_disks native joining)) ≡ after native ++ after joining
   natives_first native joining rise also apart own others =
-      let joining_adopted = each (λ (disk : Seated). bytes_eq disk.copy.header.guid config.group ≡ false) (λ (disk : Seated). adopts disk ≡ true) adopts_other joining others in
-      let native_not = each (λ (disk : Seated). bytes_eq disk.copy.header.guid config.group ≡ true) (λ (disk : Seated). adopts disk ≡ false) adopts_own native own in
+      let joining_adopted = all_weaken (λ (disk : Seated). bytes_eq disk.copy.header.guid config.group ≡ false) (λ (disk : Seated). adopts disk ≡ true) adopts_other joining others in
+      let native_not = all_weaken (λ (disk : Seated). bytes_eq disk.copy.header.guid config.group ≡ true) (λ (disk : Seated). adopts disk ≡ false) adopts_own native own in
       let first : filter (λ disk. not (adopts disk)) (both_disks native joining) ≡ native =
-      native_kept (λ disk. not (adopts disk)) native joining rise also apart (each (λ (disk : Seated). adopts disk ≡ true) (λ (disk : Seated). not (adopts disk) ≡ false) (λ disk h. ap not h) joining joining_adopted)
-      ∙ filter_all (λ disk. not (adopts disk)) native (each (λ (disk : Seated). adopts disk ≡ false) (λ (disk : Seated). not (adopts disk) ≡ true) (λ disk h. ap not h) native native_not) in
+      native_kept (λ disk. not (adopts disk)) native joining rise also apart (all_weaken (λ (disk : Seated). adopts disk ≡ true) (λ (disk : Seated). not (adopts disk) ≡ false) (λ disk h. ap not h) joining joining_adopted)
+      ∙ filter_whole (λ disk. not (adopts disk)) native (all_weaken (λ (disk : Seated). adopts disk ≡ false) (λ (disk : Seated). not (adopts disk) ≡ true) (λ disk h. ap not h) native native_not) in
       let last : filter adopts (both_disks native joining) ≡ joining =
       joining_kept adopts native joining rise also apart joining_adopted (no_native native joining own) ∙ ap (λ (l : List Seated). l ++ joining) (filter_none adopts native native_not) in
       ap (λ (l : List Seated). l ++ filter is_adopted (after (both_disks native joining))) (part_of (λ disk. not (is_adopted disk)) (both_disks native joining) ∙ ap after first)

@@ -1,7 +1,8 @@
 -- What holds of the disks of two groups together.
-use Rattle.std.proofs.Common.{◌≡◌, ℕ, ◌+◌, ◌<◌, ◌^◌, Bool, true, false, not, cond, nat_lt, List, [], ◌∷◌, ◌++◌, length, map, filter, Some, None, refl, sym, subst, arith}
+use Rattle.std.proofs.Common.{◌≡◌, ℕ, ◌+◌, ◌<◌, ◌^◌, Bool, true, false, not, cond, nat_lt, List, [], ◌∷◌, length, map, filter, Some, None, refl, sym, subst, arith}
 use Rattle.std.proofs.lemmas.Bool.{ltb-false}
 use Rattle.std.specs.List.{AllByRecursion}
+use Rattle.ddf_lemmas.proofs.Lists.{all_append, all_filter, all_weaken, first_all, second_all}
 use Rattle.ddf_header.specs.declared.geometry.Geometry.{Geometry}
 use Rattle.ddf_header.specs.Geometry.{IsSound}
 use Rattle.ddf_config_records.specs.Elements.{CanBeElement}
@@ -13,7 +14,7 @@ use Rattle.ddf_view.specs.View.{HeldRecord}
 use Rattle.ddf_rewrite.specs.Before.{Before, before}
 use Rattle.ddf_rewrite.specs.Hold.{AreHeld, IsHoldable}
 use Rattle.ddf_rewrite.proofs.Leaders.{same_members}
-use Rattle.ddf_rewrite.proofs.Lists.{all_append}
+use Rattle.ddf_rewrite.proofs.Premises.{is_sound}
 use Rattle.ddf_seats.specs.declared.seated.Seated.{Seated}
 use Rattle.ddf_seats.specs.Changing.{record_length, AreCopies, CanBeHeldOn, CanBeLed, HaveLength}
 use Rattle.ddf_joining.specs.Joining.{both_disks, by_itself, full_of_entries, is_behind, is_of_listed, most_entries, placed, told}
@@ -21,8 +22,7 @@ use Rattle.ddf_seats.specs.Leading.{some}
 use Rattle.ddf_seats.specs.Seated.{views_in}
 use Rattle.ddf_joining.specs.Telling.{IsSide, SideValue, entries_full, sides_disks, sides_joined, sides_told}
 use Rattle.ddf_joining.proofs.JoinHoldable.{joined_holdable}
-use Rattle.ddf_seats.proofs.Lists.{filter_have}
-use Rattle.ddf_seats.proofs.RecordsHeld.{held_under, sound_of}
+use Rattle.ddf_seats.proofs.RecordsHeld.{held_under}
 
 -- ---- what all have
 
@@ -35,18 +35,10 @@ all_parted {X = X} P p (x ∷ xs) none some_have = by (p x) (all_parted P p xs) 
     by true rest none some_have = (some_have.0, rest none some_have.1)
     by false rest none some_have = (none.0, rest none.1 some_have)
 
-pub first_all : {X : Type 0} (P : X → Type 0) (xs ys : List X) → AllByRecursion P (xs ++ ys) → AllByRecursion P xs
-first_all P [] ys all = tt
-first_all P (x ∷ xs) ys all = (all.0, first_all P xs ys all.1)
-
-pub second_all : {X : Type 0} (P : X → Type 0) (xs ys : List X) → AllByRecursion P (xs ++ ys) → AllByRecursion P ys
-second_all P [] ys all = all
-second_all P (x ∷ xs) ys all = second_all P xs ys all.1
-
 -- What a disk has and all others have, all have with it placed among them.
 pub all_placed : (P : Seated → Type 0) (disks : List Seated) (disk : Seated) → AllByRecursion P disks → P disk → AllByRecursion P (placed disks disk)
 all_placed P disks disk all one =
-    all_append P (filter (λ other. not (is_behind disk other)) disks) (disk ∷ filter (is_behind disk) disks) (filter_have P (λ other. not (is_behind disk other)) disks all) (one, filter_have P (is_behind disk) disks all)
+    all_append P (filter (λ other. not (is_behind disk other)) disks) (disk ∷ filter (is_behind disk) disks) (all_filter P (λ other. not (is_behind disk other)) disks all) (one, all_filter P (is_behind disk) disks all)
 
 pub placed_all : (P : Seated → Type 0) (disks : List Seated) (disk : Seated) → AllByRecursion P (placed disks disk) → AllByRecursion P disks × P disk
 placed_all P disks disk all =
@@ -65,15 +57,11 @@ have_both P native (disk ∷ joining) all =
     let own = placed_all P native disk rest.0 in
     (own.0, (own.1, rest.1))
 
-for_each : {X : Type 0} (P Q : X → Type 0) → ((x : X) → P x → Q x) → (xs : List X) → AllByRecursion P xs → AllByRecursion Q xs
-for_each P Q f [] all = tt
-for_each P Q f (x ∷ xs) all = (f x all.0, for_each P Q f xs all.1)
-
 -- ---- what is recorded
 
 -- What is told of records has what they have.
 told_held : (geometry : Geometry) (config : Configuration) (leaders : Before) → AreHeld geometry leaders → AreHeld geometry (told config leaders)
-told_held geometry config leaders all = mapped (filter (is_of_listed config) leaders.elements) (filter_have (λ (held : HeldRecord). CanBeElement geometry held.element) (is_of_listed config) leaders.elements all)
+told_held geometry config leaders all = mapped (filter (is_of_listed config) leaders.elements) (all_filter (λ (held : HeldRecord). CanBeElement geometry held.element) (is_of_listed config) leaders.elements all)
   where
     mapped : (records : List HeldRecord) → AllByRecursion (λ (held : HeldRecord). CanBeElement geometry held.element) records → AllByRecursion (λ (held : HeldRecord). CanBeElement geometry held.element) (map by_itself records)
     mapped [] all = tt
@@ -94,10 +82,10 @@ module _ (native other : SideValue) (own : IsSide native) (its : IsSide other) w
 
   pub both_led : CanBeLed (sides_told native other) both
   both_led =
-      for_each (λ (disk : Seated). CanBeCopy disk.copy) (λ (disk : Seated). HaveLength (record_length disk) both → AreHeld disk.copy.header.geometry (sides_told native other))
+      all_weaken (λ (disk : Seated). CanBeCopy disk.copy) (λ (disk : Seated). HaveLength (record_length disk) both → AreHeld disk.copy.header.geometry (sides_told native other))
       (λ disk is same.
       let geometry = disk.copy.header.geometry in
-      let sound = sound_of disk.copy is in
+      let sound = is_sound disk.copy is in
       let each = lengths (record_length disk) same in
       all_append (λ (held : HeldRecord). CanBeElement geometry held.element) (told native.config (before (views_in native.leaders))).elements (told other.config (before (views_in other.leaders))).elements
       (told_held geometry native.config (before (views_in native.leaders)) (side_led geometry sound native own each.0))
@@ -113,15 +101,15 @@ module _ (native other : SideValue) (own : IsSide native) (its : IsSide other) w
       by (disk ∷ disks) there are held same =
           let one = disk.copy.header.geometry in
           let here : HaveLength (record_length disk) (disk ∷ disks) = subst (λ (n : ℕ). HaveLength n (disk ∷ disks)) (sym same.0) same in
-          let members : one.max_members ≡ geometry.max_members = same_members one geometry (sound_of disk.copy are.0) sound same.0 in
+          let members : one.max_members ≡ geometry.max_members = same_members one geometry (is_sound disk.copy are.0) sound same.0 in
           subst (λ (most : ℕ). IsHoldable most side.config) members (held.0 here)
 
   pub both_held : join_cause native.config other.config ≡ None → length native.config.arrays + length other.config.arrays < 2 ^ 16 → CanBeHeldOn (sides_joined native other) both
   both_held free few =
-      for_each (λ (disk : Seated). CanBeCopy disk.copy) (λ (disk : Seated). HaveLength (record_length disk) both → IsHoldable disk.copy.header.geometry.max_members (sides_joined native other))
+      all_weaken (λ (disk : Seated). CanBeCopy disk.copy) (λ (disk : Seated). HaveLength (record_length disk) both → IsHoldable disk.copy.header.geometry.max_members (sides_joined native other))
       (λ disk is same.
       let geometry = disk.copy.header.geometry in
-      let sound = sound_of disk.copy is in
+      let sound = is_sound disk.copy is in
       let each = lengths (record_length disk) same in
       joined_holdable geometry.max_members native.config other.config (side_holds geometry sound native own each.0) (side_holds geometry sound other its each.1) free few)
       both both_copies

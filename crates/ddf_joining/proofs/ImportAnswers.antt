@@ -8,6 +8,7 @@ use Rattle.ddf_config.specs.declared.refusal.Refusal.TheVariants as refusals
 use Rattle.ddf_config.specs.declared.seat.Seat.{Seat}
 use Rattle.ddf_config.specs.Refusals.{first_refusal, refuse_if}
 use Rattle.ddf_config.proofs.Firsts.{all_pass, first_append}
+use Rattle.ddf_plan.proofs.Made.{not_refused}
 use Rattle.ddf_import.specs.Clash.{join_cause}
 use Rattle.ddf_seats.specs.declared.fault.GroupFault.{GroupFault}
 use Rattle.ddf_seats.specs.declared.fault.GroupFault.TheVariants.{Refused, SequenceSpent, Memory}
@@ -52,10 +53,6 @@ passes (Some one) behind h = absurd cc
 pub first_refuses : (before behind : Checks) (refusal : Refusal) → first_refusal before ≡ Some refusal → first_refusal (before ++ behind) ≡ Some refusal
 first_refuses before behind refusal h = first_append before behind ∙ ap (λ (first : Option Refusal). option_or first (first_refusal behind)) h
 
-pub unrefused : (holds : Bool) (refusal : Refusal) → refuse_if holds refusal ≡ None → holds ≡ false
-unrefused true refusal h = absurd cc
-unrefused false refusal h = refl
-
 module _ (timestamp : ℕ) (native other : GroupValue) where
   -- ---- the causes
 
@@ -92,7 +89,7 @@ module _ (timestamp : ℕ) (native other : GroupValue) where
   module _ (early : first_refusal (early_causes native other) ≡ None) where
     pub early_seats : has_no_seats native other ≡ false
     early_seats =
-        unrefused (has_no_seats native other) refusals.NoGroup
+        not_refused (has_no_seats native other) refusals.NoGroup
         (all_pass [] (refuse_if (has_no_seats native other) refusals.NoGroup)
         (refuse_if (has_strays native other) refusals.Unsettled ∷ join_cause (config_recovered native) (config_joining other) ∷ refuse_if (numbers_differ (seated native ++ seated other)) refusals.Geometry ∷ []) early)
 

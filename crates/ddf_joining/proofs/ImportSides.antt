@@ -1,13 +1,13 @@
 -- The two sides of an import: the group behind its recovery, and the other one as it is, once its absent members are lost.
-use Rattle.std.proofs.Common.{◌≡◌, ℕ, ◌^◌, ◌<◌, Bool, true, false, not, ◌&&◌, filter, List, [], ◌∷◌, Option, Some, None, Result, Ok, Err, refl, ap, subst, ◌∙◌}
-use Rattle.std.proofs.lemmas.Bool.{and_parts}
+use Rattle.std.proofs.Common.{◌≡◌, ℕ, ◌^◌, ◌<◌, Bool, true, false, not, ◌&&◌, filter, List, [], ◌∷◌, Option, None, Result, Ok, Err, refl, ap, subst, ◌∙◌}
+use Rattle.std.proofs.lemmas.Bool.{and_parts, not-false}
 use Rattle.std.specs.Prelude.{IfSome, option_map}
 use Rattle.std.specs.List.{AllByRecursion}
 use Rattle.ddf_config.specs.declared.refusal.FullTable.{FullTable}
-use Rattle.ddf_config.specs.declared.refusal.Refusal.{Refusal}
 use Rattle.ddf_config.specs.declared.refusal.Refusal.TheVariants.{Full, NoGroup}
 use Rattle.ddf_config.specs.Configuration.{Configuration}
 use Rattle.ddf_config.specs.Refusals.{first_refusal, refuse_if}
+use Rattle.ddf_config.proofs.Firsts.{first_of_one}
 use Rattle.ddf_plan.specs.declared.change.Change.TheVariants.{Lose}
 use Rattle.ddf_plan.specs.Changes.{changed_at}
 use Rattle.ddf_import.specs.Joined.{without_lost}
@@ -100,16 +100,8 @@ module _ (other : GroupValue) (is : IsAssembledGroup other) where
 
 -- ---- seats
 
-pub not_true : (b : Bool) → not b ≡ true → b ≡ false
-not_true true h = absurd cc
-not_true false h = refl
-
-pub not_false : (b : Bool) → not b ≡ false → b ≡ true
-not_false true h = refl
-not_false false h = absurd cc
-
 pub both_seated : (group other : GroupValue) → has_no_seats group other ≡ false → (some (seated group) ≡ true) × (some (seated other) ≡ true)
-both_seated group other h = and_parts (some (seated group)) (some (seated other)) (not_false (some (seated group) && some (seated other)) h)
+both_seated group other h = and_parts (some (seated group)) (some (seated other)) (not-false (some (seated group) && some (seated other)) h)
 
 -- ---- the step
 
@@ -127,10 +119,6 @@ refused_behind : (timestamp : ℕ) (group other : GroupValue) → some (disks_re
 refused_behind timestamp group other there =
     ap (λ (b : Bool). first_refusal (refuse_if (not b) NoGroup ∷ option_map Full (sides_full timestamp (native_side timestamp group) (other_side other)) ∷ [])) there
 
-first_of : (check : Option Refusal) → first_refusal (check ∷ []) ≡ check
-first_of None = refl
-first_of (Some refusal) = refl
-
 -- The step of both sides is the one behind the recovery.
 pub made_behind : (timestamp : ℕ) (group other : GroupValue) (result : Result ReadyStep GroupFault) → some (disks_recovered timestamp group) ≡ true
     → IsMade timestamp (native_side timestamp group) (other_side other) result → IsMadeBehind timestamp group other result
@@ -138,7 +126,7 @@ made_behind timestamp group other (Ok one) there made =
     (refused_behind timestamp group other there ∙ ap (λ (full : Option FullTable). first_refusal (option_map Full full ∷ [])) made.0, made.1)
 made_behind timestamp group other (Err Memory) there made = tt
 made_behind timestamp group other (Err (Refused refusal)) there made =
-    refused_behind timestamp group other there ∙ first_of (option_map Full (sides_full timestamp (native_side timestamp group) (other_side other))) ∙ made
+    refused_behind timestamp group other there ∙ first_of_one (option_map Full (sides_full timestamp (native_side timestamp group) (other_side other))) ∙ made
 made_behind timestamp group other (Err SequenceSpent) there made = absurd made
 
 pub none_left : (timestamp : ℕ) (group other : GroupValue) → some (disks_recovered timestamp group) ≡ false → IsMadeBehind timestamp group other (Err (Refused NoGroup))

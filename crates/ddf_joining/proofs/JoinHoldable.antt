@@ -1,11 +1,13 @@
 -- Copies can hold the configuration of two groups where they can hold each of them, and neither has what the other has.
-use Rattle.std.proofs.Common.{◌≡◌, ℕ, zero, suc, ◌+◌, ◌^◌, ◌<◌, ◌≤◌, Bool, true, false, not, cond, List, [], ◌∷◌, ◌++◌, length, map, filter, find, Option, Some, None, option_map, nat_eq, refl, sym, ap, subst, ◌∙◌, arith, if◌then◌else◌}
+use Rattle.std.proofs.Common.{◌≡◌, ℕ, zero, suc, ◌+◌, ◌^◌, ◌<◌, ◌≤◌, Bool, true, false, not, cond, List, [], ◌∷◌, ◌++◌, length, map, filter, find, Option, Some, None, option_map, nat_eq, refl, sym, ap, subst, ◌∙◌, arith, if◌then◌else◌, append-nil}
 use Rattle.std.proofs.lemmas.Bool.{false≢true, false_from_ne_true}
 use Rattle.std.proofs.lemmas.List.{length-append, map-append}
 use Rattle.std.specs.Prelude.{slice_get, unwrap_or}
 use Rattle.std.specs.Map.{lookup}
 use Rattle.std.specs.List.{AllByRecursion, IsDistinct, cons_option, range_with_len}
 use Rattle.std.specs.Str.{bytes_eq}
+use Rattle.std.proofs.lemmas.List.Elements.{filter-append}
+use Rattle.ddf_lemmas.proofs.Lists.{all_append, all_from, all_weaken, bytes_same, found_place}
 use Rattle.ddf_config.specs.declared.member.Member.{Member}
 use Rattle.ddf_config.specs.declared.member.SpareUse.{SpareUse}
 use Rattle.ddf_config.specs.declared.member.SpareUse.TheVariants as uses
@@ -18,10 +20,10 @@ use Rattle.ddf_config.specs.States.{all_with_low, array_with_low}
 use Rattle.ddf_import.specs.Clash.{join_cause}
 use Rattle.ddf_import.specs.Joined.{is_taken, kept_member, kept_members, least_free, members_joined, number_of, numbered, numbers_of, stays, with_number}
 use Rattle.ddf_import.proofs.Apart.{arrays_fresh, members_fresh}
-use Rattle.ddf_view.proofs.Tests.{same_bytes, bytes_same}
+use Rattle.ddf_view.proofs.Tests.{same_bytes}
 use Rattle.ddf_rewrite.specs.Elements.{is_spare_for, no_reference}
 use Rattle.ddf_rewrite.specs.Hold.{FitsMember, IsHoldable}
-use Rattle.ddf_rewrite.proofs.Lists.{all_append, all_at, all_by_get, found_place}
+use Rattle.ddf_rewrite.proofs.Lists.{all_at}
 use Rattle.ddf_rewrite.proofs.NamesCan.{own_names, own_references}
 use Rattle.ddf_joining.specs.Joining.{config_joined}
 use Rattle.ddf_steps.specs.Steps.{raised}
@@ -54,10 +56,6 @@ turned {X = X} {Y = Y} P (x ∷ xs) ys all = (firsts ys all, turned P xs ys (oth
     others : (some : List Y) → AllByRecursion (λ y. AllByRecursion (λ (one : X). P one y) (x ∷ xs)) some → AllByRecursion (λ y. AllByRecursion (λ (one : X). P one y) xs) some
     others [] all = tt
     others (y ∷ some) all = (all.0.1, others some all.1)
-
-each : {X : Type 0} (P Q : X → Type 0) → ((x : X) → P x → Q x) → (xs : List X) → AllByRecursion P xs → AllByRecursion Q xs
-each P Q f [] all = tt
-each P Q f (x ∷ xs) all = (f x all.0, each P Q f xs all.1)
 
 over_keys : {K X : Type 0} (P : K → Type 0) (entries : List (K × X)) → AllByRecursion (λ (entry : K × X). P entry.0) entries → AllByRecursion P (keys entries)
 over_keys P [] all = tt
@@ -170,7 +168,7 @@ use_numbered taken entries use_as is = record {
       (known.0, known.1, ap (λ (parts : _). slice_get parts known.0) from.3 ∙ known.2);
 }
 
-filter_none : {X : Type 0} (p : X → Bool) (xs : List X) → AllByRecursion (λ x. p x ≡ false) xs → filter p xs ≡ []
+pub filter_none : {X : Type 0} (p : X → Bool) (xs : List X) → AllByRecursion (λ x. p x ≡ false) xs → filter p xs ≡ []
 filter_none p [] all = refl
 filter_none {X = X} p (x ∷ xs) all = by (p x) all.0 (filter_none p xs all.1)
   where
@@ -178,20 +176,8 @@ filter_none {X = X} p (x ∷ xs) all = by (p x) all.0 (filter_none p xs all.1)
     by true e rest = absurd (false≢true (sym e))
     by false e rest = rest
 
-filter_append : {X : Type 0} (p : X → Bool) (xs ys : List X) → filter p (xs ++ ys) ≡ filter p xs ++ filter p ys
-filter_append p [] ys = refl
-filter_append {X = X} p (x ∷ xs) ys = by (p x) (filter_append p xs ys)
-  where
-    by : (b : Bool) → filter p (xs ++ ys) ≡ filter p xs ++ filter p ys → cond b (x ∷ filter p (xs ++ ys)) (filter p (xs ++ ys)) ≡ cond b (x ∷ filter p xs) (filter p xs) ++ filter p ys
-    by true rest = ap (λ l. x ∷ l) rest
-    by false rest = rest
-
 guids_append : (xs ys : List (List ℕ × Array)) → guids_of (xs ++ ys) ≡ guids_of xs ++ guids_of ys
 guids_append xs ys = map-append (λ (entry : List ℕ × Array). entry.0) xs ys
-
-append_none : {X : Type 0} (xs : List X) → xs ++ [] ≡ xs
-append_none [] = refl
-append_none (x ∷ xs) = ap (λ l. x ∷ l) (append_none xs)
 
 either_entry : (xs ys : List (List ℕ × Array)) (P : List ℕ × Array → Type 0) → ((a : ℕ) (entry : List ℕ × Array) → slice_get xs a ≡ Some entry → P entry) → ((a : ℕ) (entry : List ℕ × Array) → slice_get ys a ≡ Some entry → P entry)
     → (a : ℕ) (entry : List ℕ × Array) → slice_get (xs ++ ys) a ≡ Some entry → P entry
@@ -203,7 +189,7 @@ abbrev IsNoneOf : List (List ℕ × Array) → (List ℕ × Array) → Type 0
 IsNoneOf entries entry = lookup (same_guid entry.0) entries ≡ None
 
 none_for : (xs ys : List (List ℕ × Array)) (use_as : SpareUse) → IsUseAmong xs use_as → AllByRecursion (IsNoneOf xs) ys → AllByRecursion (λ (entry : List ℕ × Array). is_spare_for entry.0 use_as ≡ false) ys
-none_for xs ys use_as is fresh = each (IsNoneOf xs) (λ (entry : List ℕ × Array). is_spare_for entry.0 use_as ≡ false) (λ entry none. not_for_new entry.0 xs none use_as is) ys fresh
+none_for xs ys use_as is fresh = all_weaken (IsNoneOf xs) (λ (entry : List ℕ × Array). is_spare_for entry.0 use_as ≡ false) (λ entry none. not_for_new entry.0 xs none use_as is) ys fresh
 
 -- With other arrays behind them.
 use_first : (xs ys : List (List ℕ × Array)) (use_as : SpareUse) → IsUseAmong xs use_as → AllByRecursion (IsNoneOf xs) ys → IsUseAmong (xs ++ ys) use_as
@@ -212,9 +198,9 @@ use_first xs ys use_as is fresh = record {
       let p = λ (guid : List ℕ). is_spare_for guid (uses.Dedicated arrays) in
       let before = is.listed arrays e in
       let none = subst (λ (u : SpareUse). AllByRecursion (λ (entry : List ℕ × Array). is_spare_for entry.0 u ≡ false) ys) e (none_for xs ys use_as is fresh) in (
-        ap (filter p) (guids_append xs ys) ∙ filter_append p (guids_of xs) (guids_of ys)
+        ap (filter p) (guids_append xs ys) ∙ filter-append p (guids_of xs) (guids_of ys)
             ∙ ap (λ (l : List (List ℕ)). filter p (guids_of xs) ++ l) (filter_none p (guids_of ys) (over_keys (λ (guid : List ℕ). p guid ≡ false) ys none))
-            ∙ append_none (filter p (guids_of xs)) ∙ before.0,
+            ∙ append-nil (filter p (guids_of xs)) ∙ before.0,
         before.1,
       );
   known = either_entry xs ys (λ entry. is_spare_for entry.0 use_as ≡ true → HasKnown entry.1) is.known
@@ -228,7 +214,7 @@ use_second xs ys use_as is fresh = record {
       let p = λ (guid : List ℕ). is_spare_for guid (uses.Dedicated arrays) in
       let before = is.listed arrays e in
       let none = subst (λ (u : SpareUse). AllByRecursion (λ (entry : List ℕ × Array). is_spare_for entry.0 u ≡ false) xs) e (none_for ys xs use_as is fresh) in (
-        ap (filter p) (guids_append xs ys) ∙ filter_append p (guids_of xs) (guids_of ys)
+        ap (filter p) (guids_append xs ys) ∙ filter-append p (guids_of xs) (guids_of ys)
             ∙ ap (λ (l : List (List ℕ)). l ++ filter p (guids_of ys)) (filter_none p (guids_of xs) (over_keys (λ (guid : List ℕ). p guid ≡ false) xs none))
             ∙ before.0,
         before.1,
@@ -242,10 +228,10 @@ use_of : (most : ℕ) (config : Configuration) → IsHoldable most config → (k
 use_of most config can k entry at = record { listed = λ arrays e. can.spares.listed k entry arrays at e; known = λ a one there for. can.spares.held k a entry one at there for }
 
 uses_of : (most : ℕ) (config : Configuration) → IsHoldable most config → AllByRecursion (λ (entry : ℕ × Member). IsUseAmong config.arrays entry.1.spare) config.members
-uses_of most config can = all_by_get (λ (entry : ℕ × Member). IsUseAmong config.arrays entry.1.spare) config.members (use_of most config can)
+uses_of most config can = all_from (λ (entry : ℕ × Member). IsUseAmong config.arrays entry.1.spare) config.members (use_of most config can)
 
 named_of : (most : ℕ) (config : Configuration) → IsHoldable most config → AllByRecursion (λ (entry : ℕ × Member). nat_eq entry.0 no_reference ≡ false) config.members
-named_of most config can = all_by_get (λ (entry : ℕ × Member). nat_eq entry.0 no_reference ≡ false) config.members can.spares.named
+named_of most config can = all_from (λ (entry : ℕ × Member). nat_eq entry.0 no_reference ≡ false) config.members can.spares.named
 
 -- Two GUIDs that are none of each other's.
 guid_turned : (one other : List ℕ) → bytes_eq one other ≡ false → bytes_eq other one ≡ false
@@ -295,7 +281,7 @@ module _ (most : ℕ) (config joining : Configuration) (can : IsHoldable most co
   guids_apart =
       turned (λ (one other : List ℕ). bytes_eq one other ≡ false) (guids_of config.arrays) (guids_of joining.arrays)
       (over_keys (λ (other : List ℕ). AllByRecursion (λ (one : List ℕ). bytes_eq one other ≡ false) (guids_of config.arrays)) joining.arrays
-      (each (IsNoneOf config.arrays) (λ (entry : List ℕ × Array). AllByRecursion (λ (one : List ℕ). bytes_eq one entry.0 ≡ false) (guids_of config.arrays))
+      (all_weaken (IsNoneOf config.arrays) (λ (entry : List ℕ × Array). AllByRecursion (λ (one : List ℕ). bytes_eq one entry.0 ≡ false) (guids_of config.arrays))
       (λ entry none. guids_away entry.0 config.arrays none) joining.arrays (arrays_fresh config joining free)))
 
   all_apart : IsDistinct bytes_eq (guids_of (config.arrays ++ added))
@@ -310,7 +296,7 @@ module _ (most : ℕ) (config joining : Configuration) (can : IsHoldable most co
       ap (λ (guid : List ℕ). lookup (same_guid guid) config.arrays) from.2 ∙ all_at (IsNoneOf config.arrays) joining.arrays a from.0 (arrays_fresh config joining free) from.1)
     where
       by_get : ((a : ℕ) (entry : List ℕ × Array) → slice_get added a ≡ Some entry → IsNoneOf config.arrays entry) → AllByRecursion (IsNoneOf config.arrays) added
-      by_get f = all_by_get (IsNoneOf config.arrays) added f
+      by_get f = all_from (IsNoneOf config.arrays) added f
 
   native_fresh : AllByRecursion (IsNoneOf added) config.arrays
   native_fresh = from config.arrays guids_apart
@@ -331,7 +317,7 @@ module _ (most : ℕ) (config joining : Configuration) (can : IsHoldable most co
       (distinct_both nat_eq (keys (kept_members config)) (keys joining.members) (kept_distinct config config.members can.can_hold.references) also.can_hold.references
       (turned (λ (one other : ℕ). nat_eq one other ≡ false) (keys (kept_members config)) (keys joining.members)
       (over_keys (λ (other : ℕ). AllByRecursion (λ (one : ℕ). nat_eq one other ≡ false) (keys (kept_members config))) joining.members
-      (each (λ (entry : ℕ × Member). lookup (nat_eq entry.0) (kept_members config) ≡ None) (λ (entry : ℕ × Member). AllByRecursion (λ (one : ℕ). nat_eq one entry.0 ≡ false) (keys (kept_members config)))
+      (all_weaken (λ (entry : ℕ × Member). lookup (nat_eq entry.0) (kept_members config) ≡ None) (λ (entry : ℕ × Member). AllByRecursion (λ (one : ℕ). nat_eq one entry.0 ≡ false) (keys (kept_members config)))
       (λ entry none. number_away entry.0 (kept_members config) none) joining.members (members_fresh config joining free)))))
 
   named : AllByRecursion (λ (entry : ℕ × Member). nat_eq entry.0 no_reference ≡ false) (members_joined config joining)
@@ -344,8 +330,8 @@ module _ (most : ℕ) (config joining : Configuration) (can : IsHoldable most co
       let P = λ (entry : ℕ × Member). IsUseAmong (config.arrays ++ added) entry.1.spare in
       all_append P (kept_members config) joining.members
       (kept_have config P config.members
-      (each (λ (entry : ℕ × Member). IsUseAmong config.arrays entry.1.spare) P (λ entry is. use_first config.arrays added entry.1.spare is added_fresh) config.members (uses_of most config can)))
-      (each (λ (entry : ℕ × Member). IsUseAmong joining.arrays entry.1.spare) P
+      (all_weaken (λ (entry : ℕ × Member). IsUseAmong config.arrays entry.1.spare) P (λ entry is. use_first config.arrays added entry.1.spare is added_fresh) config.members (uses_of most config can)))
+      (all_weaken (λ (entry : ℕ × Member). IsUseAmong joining.arrays entry.1.spare) P
       (λ entry is. use_second config.arrays added entry.1.spare (use_numbered (numbers_of config.arrays) joining.arrays entry.1.spare is) native_fresh) joining.members (uses_of most joining also))
 
   -- ---- with the low states

@@ -1,8 +1,9 @@
 -- What was readied for an import: the recovery is that of no change, and the join is one of the group behind it.
-use Rattle.std.proofs.Common.{◌≡◌, ℕ, ◌^◌, ◌<◌, ◌≤◌, Bool, true, false, not, ◌||◌, List, [], ◌∷◌, ◌++◌, map, Option, Some, None, Ok, Err, nat_lt, refl, sym, ap, subst, ◌∙◌, arith, if◌then◌else◌}
+use Rattle.std.proofs.Common.{◌≡◌, ℕ, ◌^◌, ◌<◌, ◌≤◌, Bool, true, false, not, List, [], ◌∷◌, ◌++◌, map, Option, Some, None, Ok, Err, nat_lt, refl, sym, ap, subst, ◌∙◌, arith, if◌then◌else◌}
 use Rattle.std.proofs.lemmas.Bool.{ltb-false}
 use Rattle.std.specs.Prelude.{IfSome, option_map, option_to_list, slice_get}
 use Rattle.std.specs.List.{AllByRecursion}
+use Rattle.ddf_lemmas.proofs.Tests.{or_first, or_second}
 use Rattle.ddf_config.specs.declared.refusal.FullTable.{FullTable}
 use Rattle.ddf_config.specs.declared.refusal.Refusal.{Refusal}
 use Rattle.ddf_config.specs.declared.refusal.Refusal.TheVariants as refusals
@@ -11,6 +12,7 @@ use Rattle.ddf_config.specs.Refusals.{refuse_if}
 use Rattle.ddf_config.proofs.Firsts.{all_pass}
 use Rattle.ddf_import.specs.Clash.{join_cause}
 use Rattle.ddf_plan.specs.Refusals.{greatest_sequence}
+use Rattle.ddf_plan.proofs.Made.{not_refused}
 use Rattle.ddf_seats.specs.declared.fault.GroupFault.TheVariants.{Refused, SequenceSpent}
 use Rattle.ddf_seats.specs.declared.seated.Seated.{Seated}
 use Rattle.ddf_assembly.specs.Assembled.{IsAssembledGroup}
@@ -26,19 +28,10 @@ use Rattle.ddf_seats.specs.Leading.{some}
 use Rattle.ddf_seats.specs.Seated.{seated}
 use Rattle.ddf_steps.specs.Steps.{Step, disks_after, raised}
 use Rattle.ddf_steps.specs.Trying.{AreFollowing, Follows}
-use Rattle.ddf_recovery.proofs.CommittedReadied.{raised_more}
-use Rattle.ddf_joining.proofs.ImportAnswers.{unrefused}
 use Rattle.ddf_recovery.proofs.RecoveredGroup.{is_recovered}
+use Rattle.ddf_recovery.proofs.Numbered.{raised_above}
 
-or_first : (a b : Bool) → (a || b) ≡ false → a ≡ false
-or_first true b h = absurd cc
-or_first false b h = refl
-
-or_second : (a b : Bool) → (a || b) ≡ false → b ≡ false
-or_second true b h = absurd cc
-or_second false b h = h
-
-none_full : (full : Option FullTable) → option_map refusals.Full full ≡ None → full ≡ None
+pub none_full : (full : Option FullTable) → option_map refusals.Full full ≡ None → full ≡ None
 none_full None h = refl
 none_full (Some table) h = absurd cc
 
@@ -72,7 +65,7 @@ module _ (timestamp : ℕ) (native other : GroupValue) (recovery : ReadyValue) (
   unfolding join_refusal
   none_stray =
       or_first (has_stray native) (has_stray other)
-      (unrefused (has_strays native other) refusals.Unsettled
+      (not_refused (has_strays native other) refusals.Unsettled
       (all_pass (refuse_if (has_no_seats native other) refusals.NoGroup ∷ []) (refuse_if (has_strays native other) refusals.Unsettled)
       (join_cause (config_recovered native) (config_joining other) ∷ geometry ∷ option_map refusals.Full (full_of_recovery timestamp native) ∷ behind_full) is.free))
 
@@ -139,7 +132,7 @@ module _ (timestamp : ℕ) (native other : GroupValue) (recovery : ReadyValue) (
       is_join same apart others =
           let recovered = is_recovered native [] timestamp recovery was in
           let at : (join_config native other).sequence ≤ greatest_sequence = ltb-false greatest_sequence (join_config native other).sequence (or_second (loss_spent native) (nat_lt greatest_sequence (join_config native other).sequence) is.unspent) in
-          let more : (config_recovered native).sequence < raised (config_recovered native).sequence 1 = raised_more (config_recovered native).sequence 1 (omega arith) at in
+          let more : (config_recovered native).sequence < raised (config_recovered native).sequence 1 = raised_above (config_recovered native).sequence 1 (omega arith) at in
           record {
             is_settled = recovered.is_settled;
             other_assembled = other_is;

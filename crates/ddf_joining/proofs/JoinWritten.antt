@@ -5,6 +5,7 @@ use Rattle.std.specs.Prelude.{slice_get}
 use Rattle.std.specs.List.{AllByRecursion, cons_option}
 use Rattle.std.specs.Option.{option_and_then}
 use Rattle.std.specs.Str.{bytes_eq}
+use Rattle.ddf_lemmas.proofs.Lists.{all_from, all_weaken, bytes_same, mapped_at}
 use Rattle.ddf_bay.specs.Moments.{IsSettled}
 use Rattle.ddf_bay.specs.State.{BayState}
 use Rattle.ddf_copy.specs.declared.copy.DiskCopy.{DiskCopy}
@@ -13,12 +14,11 @@ use Rattle.ddf_copy.specs.Copies.{standing_copy}
 use Rattle.ddf_copy.specs.Shows.{last_of}
 use Rattle.ddf_config.specs.declared.seat.Seat.{Seat}
 use Rattle.ddf_config.specs.Configuration.{Configuration}
-use Rattle.ddf_rewrite.proofs.Lists.{all_at, all_by_get, all_mapped, get_map}
+use Rattle.ddf_rewrite.proofs.Lists.{all_at, all_mapped}
 use Rattle.ddf_rewrite.specs.Before.{Before}
 use Rattle.ddf_update.specs.Changes.{AreChanged}
 use Rattle.ddf_update.specs.Group.{LieOnSlots}
 use Rattle.ddf_update.specs.declared.prepared.Mode.TheVariants.{Change}
-use Rattle.ddf_view.proofs.Tests.{bytes_same}
 use Rattle.ddf_seats.specs.declared.seated.Seated.{Seated}
 use Rattle.ddf_recovery.specs.Committed.{HoldsGroup}
 use Rattle.ddf_steps.specs.Committed.{IsRewritten, slots_of, synced}
@@ -43,10 +43,6 @@ use Rattle.ddf_seats.proofs.Lists.{get_within}
 use Rattle.ddf_steps.proofs.Rewritten.{changed_own}
 
 -- ---- both groups as one
-
-each : {X : Type 0} (P Q : X → Type 0) → ((x : X) → P x → Q x) → (xs : List X) → AllByRecursion P xs → AllByRecursion Q xs
-each P Q f [] all = tt
-each P Q f (x ∷ xs) all = (f x all.0, each P Q f xs all.1)
 
 -- the group with the seats of both, as far as its slots are concerned
 abbrev together : GroupValue → GroupValue → GroupValue
@@ -130,13 +126,13 @@ module _ (timestamp : ℕ) (leaders : Before) (group other : GroupValue) (join :
   earlier : AllByRecursion IsEarlier both
   earlier =
       both_have IsEarlier (seated group) (seated other)
-      (each (IsLevelIn group) IsEarlier (λ disk level here. level.same_sequence) (seated group) is.is_settled.are_level)
-      (each (λ (disk : Seated). bytes_eq disk.copy.header.guid config.group ≡ false) IsEarlier
+      (all_weaken (IsLevelIn group) IsEarlier (λ disk level here. level.same_sequence) (seated group) is.is_settled.are_level)
+      (all_weaken (λ (disk : Seated). bytes_eq disk.copy.header.guid config.group ≡ false) IsEarlier
       (λ disk away here. absurd (false≢true (sym away ∙ ap (bytes_eq disk.copy.header.guid) (sym here) ∙ bytes_same disk.copy.header.guid))) (seated other) is.of_another)
 
   replace : AllByRecursion (MayReplace whole config) join.one.step.disks
   replace =
-      each (IsRewritten (seated whole) config) (MayReplace whole config)
+      all_weaken (IsRewritten (seated whole) config) (MayReplace whole config)
       (λ disk one. record {
         rewrites = one;
         newer = λ changes found is_found stands old alike newest.
@@ -154,15 +150,15 @@ module _ (timestamp : ℕ) (leaders : Before) (group other : GroupValue) (join :
     IsSure disk = IsSettled sure.may_hold sure.held disk.seat.slot
 
     native_sure : AllByRecursion IsSure (seated group)
-    native_sure = all_by_get IsSure (seated group) (λ k disk at l bytes left.
+    native_sure = all_from IsSure (seated group) (λ k disk at l bytes left.
         let own = seated_is group k disk at in
         holds.are_settled own.place disk.seat (get_within group.seats disk.seat own.place own.is_seat) own.is_seat l bytes left.0)
 
     joining_sure : AllByRecursion IsSure (seated other)
-    joining_sure = all_by_get IsSure (seated other) (λ k disk at l bytes left.
+    joining_sure = all_from IsSure (seated other) (λ k disk at l bytes left.
         let own = seated_is other k disk at in
         let there = ap (λ (seats : List Seat). slice_get seats own.place) is.joining ∙ own.is_seat in
-        left.1 own.place (get_map (λ (seat : Seat). seat.slot) join.joining own.place disk.seat there))
+        left.1 own.place (mapped_at (λ (seat : Seat). seat.slot) join.joining own.place disk.seat there))
 
     whole_held : HoldsGroup sure whole
     whole_held = record {

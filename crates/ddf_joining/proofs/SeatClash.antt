@@ -1,11 +1,13 @@
 -- A slot that is a seat of two groups: they can't be joined, since the disk of the one is there in the other.
-use Rattle.std.proofs.Common.{◌≡◌, ℕ, zero, suc, Bool, true, false, nat_eq, cond, List, [], ◌∷◌, length, ◌==◌, map, filter, filter_map, Option, Some, None, Result, Ok, Err, refl, sym, ap, subst, ◌∙◌, ◌&&◌, ◌||◌, if◌then◌else◌}
-use Rattle.std.proofs.lemmas.Bool.{eq-eqb, eqb-true, false≢true}
+use Rattle.std.proofs.Common.{◌≡◌, ℕ, zero, suc, Bool, true, false, nat_eq, cond, List, [], ◌∷◌, length, ◌==◌, map, filter, filter_map, Option, Some, None, Result, Ok, Err, refl, sym, ap, subst, ◌∙◌, ◌||◌, if◌then◌else◌}
+use Rattle.std.proofs.lemmas.Bool.{eqb-true}
 use Rattle.std.proofs.lemmas.Option.{slice_get-map}
-use Rattle.std.specs.Prelude.{find, is_some, option_map, slice_get, slice_index_or, unwrap_or}
+use Rattle.std.specs.Prelude.{is_some, option_map, slice_get, slice_index_or, unwrap_or}
 use Rattle.std.specs.Map.{lookup}
 use Rattle.std.specs.List.{cons_option, list_any}
 use Rattle.std.specs.Option.{option_and_then, option_map_or}
+use Rattle.std.proofs.lemmas.Map.Keys.{any_passes_from_place}
+use Rattle.ddf_lemmas.proofs.Lists.{all_from, comes_first, some_found}
 use Rattle.ddf_bay.specs.State.{BayState}
 use Rattle.ddf_copy.specs.declared.copy.DiskCopy.{DiskCopy}
 use Rattle.ddf_copy.specs.declared.newest_copy.Newest.{Newest}
@@ -18,6 +20,7 @@ use Rattle.ddf_config.specs.Configuration.{Configuration}
 use Rattle.ddf_config.specs.Entries.{changed_entries}
 use Rattle.ddf_config.specs.Members.{same_guid}
 use Rattle.ddf_config.specs.Refusals.{first_refusal, refuse_if}
+use Rattle.ddf_config.proofs.Common.{same_self}
 use Rattle.ddf_plan.specs.declared.change.Change.{Change}
 use Rattle.ddf_plan.specs.declared.change.Change.TheVariants.{Lose}
 use Rattle.ddf_plan.specs.Members.{member_after, members_after}
@@ -40,7 +43,7 @@ use Rattle.ddf_joining.specs.Joining.{config_joining}
 use Rattle.ddf_recovery.specs.Recovery.{config_lost, config_recovered}
 use Rattle.ddf_seats.specs.Leading.{some}
 use Rattle.ddf_assembly.specs.Slots.{first_left_out, newest_from}
-use Rattle.ddf_rewrite.proofs.Lists.{all_at, all_by_get}
+use Rattle.ddf_rewrite.proofs.Lists.{all_at}
 use Rattle.ddf_assembly.proofs.LeftMembers.{IsCurrentIn, read_current}
 use Rattle.ddf_assembly.proofs.LeftOut.{both_kept, none_left_out}
 use Rattle.ddf_assembly.proofs.SettledHeld.{newest_kept}
@@ -65,35 +68,6 @@ of_one {X = X} {Y = Y} f test (x ∷ xs) place y h = by (test x) refl (of_one f 
         → slice_get (filter_map f (cond b (x ∷ filter test xs) (filter test xs))) place ≡ Some y → (w : X) × ((test w ≡ true) × (f w ≡ Some y))
     by true e later at = one e (f x) refl later place at
     by false e later at = later place y at
-
--- The first that passes a test comes first of those that pass it.
-comes_first : {X Y : Type 0} (f : X → Option Y) (test : X → Bool) (xs : List X) (y : Y) → option_and_then f (find test xs) ≡ Some y → (rest : List Y) × (filter_map f (filter test xs) ≡ y ∷ rest)
-comes_first f test [] y h = absurd cc
-comes_first {X = X} {Y = Y} f test (x ∷ xs) y h = by (test x) (comes_first f test xs y) h
-  where
-    by : (b : Bool) → (option_and_then f (find test xs) ≡ Some y → (rest : List Y) × (filter_map f (filter test xs) ≡ y ∷ rest))
-        → option_and_then f (cond b (Some x) (find test xs)) ≡ Some y → (rest : List Y) × (filter_map f (cond b (x ∷ filter test xs) (filter test xs)) ≡ y ∷ rest)
-    by true later is = (filter_map f (filter test xs), ap (λ (found : Option Y). cons_option found (filter_map f (filter test xs))) is)
-    by false later is = later is
-
-any_at : {X : Type 0} (test : X → Bool) (xs : List X) (place : ℕ) (x : X) → slice_get xs place ≡ Some x → test x ≡ true → list_any test xs ≡ true
-any_at test [] place x at passes = absurd cc
-any_at test (y ∷ ys) zero x at passes = let same : y ≡ x = cc in ap (λ (b : Bool). b || list_any test ys) (ap test same ∙ passes)
-any_at test (y ∷ ys) (suc place) x at passes = by (test y) (any_at test ys place x at passes)
-  where
-    by : (b : Bool) → list_any test ys ≡ true → (b || list_any test ys) ≡ true
-    by true e = refl
-    by false e = e
-
-some_found : {X : Type 0} (test : X → Bool) (xs : List X) (place : ℕ) (x : X) → slice_get xs place ≡ Some x → test x ≡ true → (y : X) × (find test xs ≡ Some y)
-some_found test [] place x at passes = absurd cc
-some_found {X = X} test (y ∷ ys) place x at passes = by (test y) refl (some_found test ys) place at
-  where
-    by : (b : Bool) → test y ≡ b → ((n : ℕ) (z : X) → slice_get ys n ≡ Some z → test z ≡ true → (w : X) × (find test ys ≡ Some w)) → (n : ℕ) → slice_get (y ∷ ys) n ≡ Some x
-        → (w : X) × (cond b (Some y) (find test ys) ≡ Some w)
-    by true e later n is = (y, refl)
-    by false e later zero is = let same : y ≡ x = cc in absurd (false≢true (sym e ∙ ap test same ∙ passes))
-    by false e later (suc n) is = later n x is passes
 
 -- ---- a seat of a group
 
@@ -197,21 +171,13 @@ joining_has : (config : Configuration) (lost : List ℕ) (guid : List ℕ) → H
 joining_has config [] guid has = has
 joining_has config (reference ∷ lost) guid has = after_has config (Lose (reference ∷ lost)) guid has
 
-and_both : (a b : Bool) → a ≡ true → b ≡ true → (a && b) ≡ true
-and_both true b e f = f
-and_both false b e f = absurd cc
-
-same_self : (guid : List ℕ) → same_guid guid guid ≡ true
-same_self [] = refl
-same_self (byte ∷ guid) = and_both (nat_eq byte byte) (same_guid guid guid) (eq-eqb byte byte refl) (same_self guid)
-
 abbrev behind : Configuration → Configuration → List (Option Refusal)
 behind config joining =
     array_clash config.arrays joining.arrays ∷ bound_in config joining ∷ bound_in joining config ∷ refuse_if (takes_name config joining) NameTaken ∷ []
 
 clash : (config joining : Configuration) (guid : List ℕ) → HasDiskIn config.members guid → HasDiskIn joining.members guid → (refusal : Refusal) × (join_cause config joining ≡ Some refusal)
 clash config joining guid own its =
-    let has = any_at (λ (entry : ℕ × Member). same_guid entry.1.guid its.entry.1.guid) config.members own.place own.entry own.at
+    let has = any_passes_from_place (λ (entry : ℕ × Member). same_guid entry.1.guid its.entry.1.guid) config.members own.place own.entry own.at
     (ap (λ (one : List ℕ). same_guid own.entry.1.guid one) (its.same ∙ sym own.same) ∙ same_self own.entry.1.guid) in
     let there : is_there config.members its.entry ≡ true = ap (λ (b : Bool). b || is_some (lookup (nat_eq its.entry.0) config.members)) has in
     let found = some_found (is_there config.members) joining.members its.place its.entry its.at there in
@@ -295,7 +261,7 @@ module _ {D : Type 0} (disks : BayState D) (left also : List Bool) (named called
   -- The one knows the disks that join it as the other does, where it left none of them out and nothing of the other's is there.
   pub knows_disks : KnowsDisks native other
   knows_disks = record {
-    same_newest = all_by_get (λ (seat : Seat). slice_get native.newest seat.slot ≡ slice_get other.newest seat.slot) other.seats same_there;
-    are_kept = all_by_get (λ (seat : Seat). is_kept native.newest seat.slot ≡ true) other.seats kept_too;
-    are_apart = all_by_get (λ (seat : Seat). list_any (λ own. own.slot == seat.slot) native.seats ≡ false) other.seats not_own;
+    same_newest = all_from (λ (seat : Seat). slice_get native.newest seat.slot ≡ slice_get other.newest seat.slot) other.seats same_there;
+    are_kept = all_from (λ (seat : Seat). is_kept native.newest seat.slot ≡ true) other.seats kept_too;
+    are_apart = all_from (λ (seat : Seat). list_any (λ own. own.slot == seat.slot) native.seats ≡ false) other.seats not_own;
   }

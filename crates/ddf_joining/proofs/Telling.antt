@@ -1,10 +1,12 @@
 -- What the copy tells that two groups' leaders have in common.
-use Rattle.std.proofs.Common.{◌≡◌, ◌∙◌, ◌++◌, ℕ, ◌+◌, Bool, true, false, ◌||◌, cond, List, [], ◌∷◌, length, map, filter, filter_map, Option, Some, None, is_some, option_map, refl, sym, ap}
+use Rattle.std.proofs.Common.{◌≡◌, ◌∙◌, ◌++◌, ℕ, ◌+◌, Bool, true, false, ◌||◌, cond, List, [], ◌∷◌, length, map, filter, filter_map, Option, Some, None, is_some, option_map, refl, sym, ap, append-nil}
 use Rattle.std.proofs.lemmas.Bool.{false≢true}
 use Rattle.std.proofs.lemmas.List.{length-append, length-map, map-append}
 use Rattle.std.specs.Map.{lookup}
 use Rattle.std.specs.List.{AllByRecursion, cons_option}
 use Rattle.std.specs.Option.{option_map_or, option_or}
+use Rattle.std.proofs.lemmas.List.Elements.{filter-append, filter_map-append}
+use Rattle.ddf_lemmas.proofs.Lists.{all_append}
 use Rattle.ddf_tables.specs.declared.arrays.ArrayEntry.{ArrayEntry}
 use Rattle.ddf_tables.specs.declared.arrays.ArrayRow.{ArrayRow}
 use Rattle.ddf_tables.specs.declared.arrays.ArrayRow.TheVariants as array_rows
@@ -23,7 +25,6 @@ use Rattle.ddf_copy.specs.declared.copy.DiskCopy.{DiskCopy}
 use Rattle.ddf_view.specs.Reading.{disks_in, elements_in}
 use Rattle.ddf_view.specs.View.{HeldRecord, View, array_of, disk_of, element_of, elements_of, held_from, note_at, notes_of, view_of}
 use Rattle.ddf_rewrite.specs.Before.{Before, before}
-use Rattle.ddf_rewrite.proofs.Lists.{all_append}
 use Rattle.ddf_seats.specs.declared.seated.Seated.{Seated}
 use Rattle.ddf_joining.specs.Joining.{by_itself, guids_in, is_of_listed}
 use Rattle.ddf_seats.specs.Seated.{views_in}
@@ -85,32 +86,16 @@ told_alone config notes n (slot ∷ slots) = by slot (told_alone config notes (n
         from None e rest = rest
         from (Some element) e rest = kept element (is_some (lookup (same_guid element.array) config.arrays)) (ap (option_map (λ element. record { element = element; note = None })) e) rest
 
-filter_map_append : {X Y : Type 0} (f : X → Option Y) (xs ys : List X) → filter_map f (xs ++ ys) ≡ filter_map f xs ++ filter_map f ys
-filter_map_append f [] ys = refl
-filter_map_append {Y = Y} f (x ∷ xs) ys = by (f x) (filter_map_append f xs ys)
-  where
-    by : (o : Option Y) → filter_map f (xs ++ ys) ≡ filter_map f xs ++ filter_map f ys → cons_option o (filter_map f (xs ++ ys)) ≡ cons_option o (filter_map f xs) ++ filter_map f ys
-    by None rest = rest
-    by (Some y) rest = ap (λ (l : List Y). y ∷ l) rest
-
-filter_append : {X : Type 0} (p : X → Bool) (xs ys : List X) → filter p (xs ++ ys) ≡ filter p xs ++ filter p ys
-filter_append p [] ys = refl
-filter_append {X = X} p (x ∷ xs) ys = by (p x) (filter_append p xs ys)
-  where
-    by : (b : Bool) → filter p (xs ++ ys) ≡ filter p xs ++ filter p ys → cond b (x ∷ filter p (xs ++ ys)) (filter p (xs ++ ys)) ≡ cond b (x ∷ filter p xs) (filter p xs) ++ filter p ys
-    by true rest = ap (λ (l : List X). x ∷ l) rest
-    by false rest = rest
-
 -- The records of the disks of a group that are told.
 slots_alone : (config : Configuration) (disks : List Seated) → filter_map alone (slots_told config disks) ≡ map by_itself (filter (is_of_listed config) (elements_in (views_in disks)))
 unfolding view_of
 slots_alone config [] = refl
 slots_alone config (disk ∷ disks) =
-    filter_map_append alone (filter (is_told config) disk.copy.slots) (slots_told config disks)
+    filter_map-append alone (filter (is_told config) disk.copy.slots) (slots_told config disks)
     ∙ ap (λ (l : List HeldRecord). l ++ filter_map alone (slots_told config disks)) (told_alone config (notes_of disk.copy) 0 disk.copy.slots)
     ∙ ap (λ (l : List HeldRecord). map by_itself (filter (is_of_listed config) (elements_of disk.copy)) ++ l) (slots_alone config disks)
     ∙ sym (map-append by_itself (filter (is_of_listed config) (elements_of disk.copy)) (filter (is_of_listed config) (elements_in (views_in disks))))
-    ∙ ap (map by_itself) (sym (filter_append (is_of_listed config) (elements_of disk.copy) (elements_in (views_in disks))))
+    ∙ ap (map by_itself) (sym (filter-append (is_of_listed config) (elements_of disk.copy) (elements_in (views_in disks))))
 
 -- ---- no notes
 
@@ -152,10 +137,6 @@ none_valid group sequence (slot ∷ slots) all = ap (λ (o : Option Notes). opti
 
 -- ---- the copy
 
-append_none : {X : Type 0} (xs : List X) → xs ++ [] ≡ xs
-append_none [] = refl
-append_none (x ∷ xs) = ap (λ l. x ∷ l) (append_none xs)
-
 -- What a copy tells by itself, where no slot of it holds notes.
 alone_before : (copy : DiskCopy) → valid_notes copy.header.guid copy.header.sequence copy.slots ≡ None
     → before (view_of copy ∷ []) ≡ record { disks = filter_map disk_of copy.disks.rows; arrays = map (λ entry. entry.guid) (filter_map array_of copy.arrays.rows); elements = filter_map alone copy.slots; noted = false }
@@ -172,7 +153,7 @@ alone_before copy none =
       arrays = map (λ (entry : ArrayEntry). entry.guid) (filter_map array_of copy.arrays.rows);
       elements = elements;
       noted = false;
-    }) (append_none (held_from None 0 copy.slots) ∙ held_alone 0 copy.slots)
+    }) (append-nil (held_from None 0 copy.slots) ∙ held_alone 0 copy.slots)
 
 abbrev as_before : List DiskEntry → List (List ℕ) → List HeldRecord → Before
 as_before disks arrays elements = record { disks = disks; arrays = arrays; elements = elements; noted = false }
@@ -196,7 +177,7 @@ tells_both native other copy is =
     ∙ guids_named (guids_in native.config ++ guids_in other.config) in
     let elements : filter_map alone copy.slots
     ≡ map by_itself (filter (is_of_listed native.config) (elements_in (views_in native.leaders))) ++ map by_itself (filter (is_of_listed other.config) (elements_in (views_in other.leaders))) =
-    ap (filter_map alone) is.records ∙ filter_map_append alone own its
+    ap (filter_map alone) is.records ∙ filter_map-append alone own its
     ∙ ap (λ (l : List HeldRecord). l ++ filter_map alone its) (slots_alone native.config native.leaders)
     ∙ ap (λ (l : List HeldRecord). map by_itself (filter (is_of_listed native.config) (elements_in (views_in native.leaders))) ++ l) (slots_alone other.config other.leaders) in
     alone_before copy none

@@ -1,8 +1,9 @@
 -- How the slots are seen that were looked at so far, one slot more.
 use Rattle.std.proofs.Common.{◌≡◌, ◌≢◌, ℕ, ◌+◌, ◌<◌, ◌≤◌, zero, suc, List, Option, true, false, length, replicate, ⊎_elim, refl, ◌∙◌, arith}
-use Rattle.std.specs.Prelude.{slice_index, slice_set}
+use Rattle.std.specs.Prelude.{slice_set}
 use Rattle.std.proofs.lemmas.List.{get_or-set_same, get_or-set_other}
 use Rattle.std.proofs.lemmas.Bool.{cases_eq}
+use Rattle.ddf_lemmas.proofs.Lists.{zero_first}
 use Rattle.ddf_bytes.specs.Counts.{Rose}
 use Rattle.ddf_bay.specs.State.{BayState}
 use Rattle.ddf_bay.specs.ReadsOnly.{ReadsOnly}
@@ -34,12 +35,6 @@ plain_first (suc n) (suc s) = plain_first n s
 
 pub none_unread : {P : Type 0} (n s : ℕ) → is_unread (kind_at (replicate n Plain) s) ≡ true → P
 none_unread n s is = let none : is_unread (kind_at (replicate n Plain) s) ≡ false = rw (plain_first n s) refl in absurd cc
-
--- counts begin at 0
-zero_first : (n s : ℕ) → slice_index (replicate n 0) s ≡ 0
-zero_first zero s = refl
-zero_first (suc n) zero = refl
-zero_first (suc n) (suc s) = zero_first n s
 
 pub own_first : (kinds : List SlotKind) (n : ℕ) (inner : ℕ → ℕ) (s : ℕ) → is_unread (kind_at kinds s) ≡ true → own_or kinds (replicate n 0) inner s ≡ 0
 own_first kinds n inner s is = rw is (zero_first n s)

@@ -1,7 +1,9 @@
 -- Which sectors of a new disk are turned: the first of each record, and the anchor.
 use Rattle.std.proofs.Common.{◌≡◌, ◌⊎◌, ℕ, zero, suc, ◌+◌, ◌-◌, ◌*◌, ◌/◌, ◌%◌, ◌<◌, ◌≤◌, Bool, true, false, not, ◌&&◌, ◌||◌, eqb, leb, cond, List, Option, Some, None, ⊎_elim, refl, ap, sym, ◌∙◌, subst, arith}
-use Rattle.std.proofs.lemmas.Bool.{and_parts, cases_eq, cases_lt, eq-eqb, le-leb, le-ltb, lt-leb, ne_eqb}
+use Rattle.std.proofs.lemmas.Bool.{and_parts, cases_eq, cases_lt, eq-eqb, le-leb, le-ltb, lt-leb, ne_eqb, not-true}
 use Rattle.std.proofs.lemmas.Nat.{le-div}
+use Rattle.std.proofs.Math.Bool.{and-false}
+use Rattle.ddf_lemmas.proofs.Tests.{or_true}
 use Rattle.ddf_header.specs.Header.{header_signature}
 use Rattle.ddf_update.specs.declared.new_layout.NewLayout.{NewLayout}
 use Rattle.ddf_update.specs.declared.new_layout.NewLayout.TheVariants.{Large, Small}
@@ -79,27 +81,19 @@ IsNewHeader layout size header = (header ≡ size - primary_back layout) ⊎ (he
 abbrev copies : NewLayout → (size one table slot : ℕ) → Copies
 copies layout size one table slot = record { primary = size - primary_back layout; secondary = size - secondary_back layout; layout = new_records layout one table slot }
 
-or_true : (a : Bool) → (a || true) ≡ true
-or_true true = refl
-or_true false = refl
-
-and_false : (a : Bool) → (a && false) ≡ false
-and_false true = refl
-and_false false = refl
-
 -- behind the end of the last of these records none of them begins
 far : (own : Records) (behind : ℕ) → own.offset + own.count * own.stride ≤ behind → is_first own 0 behind ≡ false
 unfolding is_first
 far own behind past = ⊎_elim
-    (λ (none : own.stride ≡ 0). rw (eq-eqb own.stride 0 none) (and_false (leb (0 + own.offset) behind)))
+    (λ (none : own.stride ≡ 0). rw (eq-eqb own.stride 0 none) (and-false (leb (0 + own.offset) behind)))
     (λ differs.
     let some : 0 < own.stride = omega (arith, differs) in
     let room : own.count * own.stride ≤ behind - (0 + own.offset) = omega (arith, past) in
     let full : own.count ≤ (behind - (0 + own.offset)) / own.stride = le-div own.count (behind - (0 + own.offset)) own.stride some room in
     rw (le-ltb ((behind - (0 + own.offset)) / own.stride) own.count full)
-    (ap (λ (b : Bool). leb (0 + own.offset) behind && (not (eqb own.stride 0) && b)) (and_false (eqb ((behind - (0 + own.offset)) % own.stride) 0))
-    ∙ ap (λ (b : Bool). leb (0 + own.offset) behind && b) (and_false (not (eqb own.stride 0)))
-    ∙ and_false (leb (0 + own.offset) behind)))
+    (ap (λ (b : Bool). leb (0 + own.offset) behind && (not (eqb own.stride 0) && b)) (and-false (eqb ((behind - (0 + own.offset)) % own.stride) 0))
+    ∙ ap (λ (b : Bool). leb (0 + own.offset) behind && b) (and-false (not (eqb own.stride 0)))
+    ∙ and-false (leb (0 + own.offset) behind)))
     (cases_eq own.stride 0)
 
 -- ---- a lookup
@@ -107,10 +101,6 @@ far own behind past = ⊎_elim
 either : {X : Type 0} (P : X → Type 0) (test : Bool) (x y : X) → P x → P y → P (cond test x y)
 either P true x y one other = one
 either P false x y one other = other
-
-not_true : (b : Bool) → not b ≡ true → b ≡ false
-not_true true is = cc
-not_true false is = refl
 
 seven : (a b c d e f g : Bool) → (a && (b && (c && (d && (e && (f && g)))))) ≡ true
     → (a ≡ true) × (b ≡ true) × (c ≡ true) × (d ≡ true) × (e ≡ true) × (f ≡ true) × (g ≡ true)
@@ -129,7 +119,7 @@ module _ (layout : NewLayout) (size : ℕ) (large : least_sectors layout ≤ siz
   no_anchor signature =
       let other : eqb (header + behind) (size - 1) ≡ false =
       ne_eqb (header + behind) (size - 1) (λ (e : header + behind ≡ size - 1). ⊎_elim (λ first. absurd (omega (arith, e, first))) (λ second. absurd (omega (arith, e, second))) is_header) in
-      rw other (and_false (eqb signature header_signature))
+      rw other (and-false (eqb signature header_signature))
 
   module _ (one table slot : ℕ) where
     abbrev own_copies : Copies
@@ -164,7 +154,7 @@ module _ (layout : NewLayout) (size : ℕ) (large : least_sectors layout ≤ siz
 
     none_of : (own : Records) → own.offset + own.count * own.stride ≤ copy_length layout → not (is_first own 0 behind) ≡ true → kind_constant own_copies (Some own) (header + behind) ≡ None
     none_of own ends none =
-        let out : is_first own 0 behind ≡ false = not_true (is_first own 0 behind) none in
+        let out : is_first own 0 behind ≡ false = not-true (is_first own 0 behind) none in
         rw (begins_none own ends out) refl
 
     -- where no record begins, no signature is turned

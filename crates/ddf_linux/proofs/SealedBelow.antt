@@ -1,13 +1,13 @@
 -- What is seen sealed as the standard says on a new disk is sealed in Linux's kind below.
-use Rattle.std.proofs.Common.{◌≡◌, ◌⊎◌, ℕ, zero, suc, ◌+◌, ◌-◌, ◌*◌, ◌/◌, ◌<◌, ◌≤◌, ◌^◌, Bool, true, false, ◌||◌, eqb, List, [], ◌++◌, length, take, drop, map, Option, Some, None, Result, Ok, Err, inl, inr, ⊎_elim, refl, ap, sym, ◌∙◌, subst, arith, add-zero, length-append, cond, ltb}
+use Rattle.std.proofs.Common.{◌≡◌, ◌⊎◌, ℕ, zero, suc, ◌+◌, ◌-◌, ◌*◌, ◌/◌, ◌<◌, ◌≤◌, ◌^◌, Bool, true, false, ◌||◌, eqb, List, [], ◌++◌, length, take, drop, map, Option, Some, None, Result, Ok, Err, inl, inr, refl, ap, sym, ◌∙◌, subst, arith, add-zero, length-append, cond, ltb}
 use Rattle.std.specs.Prelude.{option_map}
 use Rattle.std.specs.List.{range_with_len}
 use Rattle.std.specs.Option.{option_or}
 use Rattle.std.specs.Result.{result_err}
 use Rattle.std.specs.Int.{w32, from_be_bytes}
-use Rattle.std.proofs.lemmas.Bool.{cases_lt, eqb-true}
-use Rattle.std.proofs.lemmas.List.{append-nil, get_or_append_left, take-append-le}
-use Rattle.std.proofs.Math.Seq.{drop-append-add, get_or-append_right, take-append-add}
+use Rattle.std.proofs.lemmas.Bool.{eqb-true}
+use Rattle.std.proofs.lemmas.List.{append-nil, take-append-le}
+use Rattle.std.proofs.Math.Seq.{drop-append-add, take-append-add}
 use Rattle.ddf_bytes.specs.Bytes.{number_at}
 use Rattle.ddf_bytes.specs.Choices.{ok_unless}
 use Rattle.ddf_bay.specs.Sectors.{IsWhole}
@@ -15,13 +15,13 @@ use Rattle.ddf_seal.specs.Seal.{IsSealed, seal_check}
 use Rattle.ddf_seal.specs.Unread.{AreBytes}
 use Rattle.ddf_seal.specs.declared.sealing.SealFault.{SealFault}
 use Rattle.ddf_seal.proofs.Seals.{sealed_from_check}
+use Rattle.ddf_seal.proofs.Common.{append_bytes}
 use Rattle.ddf_header.specs.declared.fault.HeaderFault.{HeaderFault}
 use Rattle.ddf_header.specs.declared.fault.HeaderFault.TheVariants as faults
 use Rattle.ddf_header.specs.declared.geometry.Geometry.{Geometry}
 use Rattle.ddf_header.specs.declared.kind.HeaderKind.{HeaderKind}
 use Rattle.ddf_header.specs.declared.reading.Header.{Header}
 use Rattle.ddf_header.specs.Header.{decoded, first_fault, header_at, header_signature}
-use Rattle.ddf_tables.specs.declared.fault.TableFault.{TableFault}
 use Rattle.ddf_tables.specs.declared.fault.TableFault.TheVariants as table_faults
 use Rattle.ddf_tables.specs.Arrays.{array_signature, decoded_arrays}
 use Rattle.ddf_tables.specs.BadBlocks.{LogValue, decoded_log, log_signature}
@@ -36,13 +36,13 @@ use Rattle.ddf_config_records.proofs.Sections.{decoded_sealed}
 use Rattle.ddf_config_records.proofs.SlotValues.{signature_is}
 use Rattle.ddf_copy.specs.declared.copy.DiskCopy.{DiskCopy}
 use Rattle.ddf_copy.specs.declared.fault.CopyFault.{CopyFault}
-use Rattle.ddf_copy.specs.declared.fault.SectionName.{SectionName}
 use Rattle.ddf_copy.specs.declared.fault.SectionName.TheVariants as names
 use Rattle.ddf_copy.specs.declared.raw.Raw.{Raw}
 use Rattle.ddf_copy.specs.declared.which.Which.{Which}
 use Rattle.ddf_copy.specs.Gate.{gated, header_in, header_of}
 use Rattle.ddf_copy.specs.Sections.{and_then, bytes_in, copy_in, in_section, in_sector, in_slots, log_in, raw_at, some_log}
 use Rattle.ddf_copy.specs.Which.{kind_of, place_of}
+use Rattle.ddf_copy.proofs.Common.{in_section_ok, in_sector_ok}
 use Rattle.ddf_update.specs.declared.new_layout.NewLayout.{NewLayout}
 use Rattle.ddf_update.specs.declared.new_layout.NewLayout.TheVariants.{Large, Small}
 use Rattle.ddf_update.specs.NewCopies.{new_geometry}
@@ -60,13 +60,6 @@ use Rattle.ddf_linux.specs.Places.{constant_at, is_first, new_places, signature_
 use Rattle.ddf_linux.specs.Turning.{turned}
 use Rattle.ddf_linux.specs.TurnLaws.{turn_length, turn_signature}
 use Rattle.ddf_linux.proofs.NewPlaces.{GoesOn, IsNewHeader, arrays_begin, arrays_go_on, disk_data_begins, disks_begin, disks_go_on, log_begins, none_turned, own_records, slot_begins, slot_goes_on, slots_behind, turned_at}
-
--- the bytes of two lists are bytes
-pub append_bytes : (first rest : List ℕ) → AreBytes first → AreBytes rest → AreBytes (first ++ rest)
-append_bytes first rest are others i = ⊎_elim
-    (λ (below : i < length first). rw (get_or_append_left first rest 0 i below) (are i))
-    (λ (past : length first ≤ i). rw (get_or-append_right first rest i 0 past) (others (i - length first)))
-    (cases_lt i (length first))
 
 -- a record begins with the number that its first sector begins with
 pub signature_front : (first rest : List ℕ) → length first ≡ 512 → number_at w32 (first ++ rest) 0 ≡ signature_of first
@@ -189,14 +182,6 @@ module _ (layout : NewLayout) (size : ℕ) (seen : ℕ → List ℕ) (whole : (l
 pub and_then_ok : {A B : Type 0} (read : Result A CopyFault) (next : A → Result B CopyFault) (value : B) → and_then read next ≡ Ok value → (x : A) × (read ≡ Ok x) × (next x ≡ Ok value)
 and_then_ok (Ok x) next value is = (x, refl, is)
 and_then_ok (Err fault) next value is = cc
-
-in_sector_ok : {T : Type 0} (name : SectionName) (read : Result T SealFault) (value : T) → in_sector name read ≡ Ok value → read ≡ Ok value
-in_sector_ok name (Ok x) value is = cc
-in_sector_ok name (Err fault) value is = cc
-
-in_section_ok : {T : Type 0} (name : SectionName) (read : Result T TableFault) (value : T) → in_section name read ≡ Ok value → read ≡ Ok value
-in_section_ok name (Ok x) value is = cc
-in_section_ok name (Err fault) value is = cc
 
 in_slots_ok : (read : Result (List RecordSlot) SlotFault) (value : List RecordSlot) → in_slots read ≡ Ok value → read ≡ Ok value
 in_slots_ok (Ok x) value is = cc

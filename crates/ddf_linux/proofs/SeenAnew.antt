@@ -16,6 +16,7 @@ use Rattle.ddf_copy.specs.declared.copy.DiskCopy.{DiskCopy}
 use Rattle.ddf_copy.specs.declared.fault.AnchorFault.TheVariants.{Blank}
 use Rattle.ddf_copy.specs.Anchor.{anchor_at, anchor_in, anchor_or_damage}
 use Rattle.ddf_copy.specs.Headers.{anchor_header}
+use Rattle.ddf_copy.proofs.Common.{by_fault}
 use Rattle.ddf_update.specs.declared.new_layout.NewLayout.{NewLayout}
 use Rattle.ddf_update.specs.NewLayouts.{least_sectors, primary_back, secondary_back}
 use Rattle.ddf_update.specs.Update.{AreBoth}
@@ -42,16 +43,12 @@ no_blank : (read : Result Header HeaderFault) → anchor_or_damage read ≡ Err 
 no_blank (Ok anchor) is = cc
 no_blank (Err fault) is = cc
 
-read_ok : (read : Result Header HeaderFault) (anchor : Header) → anchor_or_damage read ≡ Ok anchor → read ≡ Ok anchor
-read_ok (Ok found) anchor is = cc
-read_ok (Err fault) anchor is = cc
-
 unnamed : (test : Bool) (read : Result Header HeaderFault) → cond test (anchor_or_damage read) (Err Blank) ≡ Err Blank → test ≡ false
 unnamed true read is = absurd (no_blank read is)
 unnamed false read is = refl
 
 named : (test : Bool) (read : Result Header HeaderFault) (anchor : Header) → cond test (anchor_or_damage read) (Err Blank) ≡ Ok anchor → (test ≡ true) × (read ≡ Ok anchor)
-named true read anchor is = (refl, read_ok read anchor is)
+named true read anchor is = (refl, by_fault read anchor is)
 named false read anchor is = cc
 
 module _ (size : ℕ) (some : 0 < size) (sector : ℕ → List ℕ) where

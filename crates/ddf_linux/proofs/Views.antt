@@ -1,6 +1,5 @@
 -- What a run that was written turned means to one who sees the bay turned.
 use Rattle.std.proofs.Common.{◌≡◌, ℕ, ◌+◌, ◌-◌, ◌<◌, ◌≤◌, List, [], ◌∷◌, length, get_or, inl, inr, ⊎_elim, sym, ◌∙◌, ap, arith}
-use Rattle.std.specs.Prelude.{Result, Ok, Err, OnOk, OnErr}
 use Rattle.std.proofs.Math.Path.{fun_ext}
 use Rattle.std.proofs.lemmas.Bool.{cases_lt, cases_eq}
 use Rattle.ddf_bay.specs.Sectors.{Image, Outcomes, InRun, put_run}
@@ -84,16 +83,3 @@ one_each kinds slot lba v w is k lt =
 pub settled_turned : (kinds : List SlotKind) (may : Outcomes) (held : Image) (slot : ℕ) → IsSettled may held slot
     → IsSettled (λ s l v. may s l (turn (kind_at kinds s) l v)) (turned_image kinds held) slot
 settled_turned kinds may held slot settled l v left = sym (turn_twice (kind_at kinds slot) l v) ∙ ap (turn (kind_at kinds slot) l) (settled l (turn (kind_at kinds slot) l v) left)
-
--- what holds at Ok, or at Err, by what does
-pub ok_then : {T E P Q : Type 0} (r : Result T E) → (P → Q) → OnOk r P → OnOk r Q
-ok_then (Ok x) f p = f p
-ok_then (Err e) f p = p
-
-pub err_then : {T E P Q : Type 0} (r : Result T E) → (P → Q) → OnErr r P → OnErr r Q
-err_then (Ok x) f p = p
-err_then (Err e) f p = f p
-
-pub on_err : {T E P : Type 0} (r : Result T E) → P → OnErr r P
-on_err (Ok x) p = tt
-on_err (Err e) p = p

@@ -1,5 +1,5 @@
 -- The steps of the CRC over zeros: they are counted together, and are linear.
-use Rattle.std.proofs.Common.{◌≡◌, ◌≢◌, ℕ, ◌+◌, ◌-◌, ◌*◌, ◌/◌, ◌%◌, ◌^◌, ◌<◌, ◌≤◌, zero, suc, List, length, get_or, ⊎_elim, fold, replicate, refl, sym, ◌∙◌, ap, arith, bit_xor}
+use Rattle.std.proofs.Common.{◌≡◌, ◌≢◌, ℕ, ◌+◌, ◌*◌, ◌/◌, ◌%◌, ◌^◌, ◌<◌, zero, suc, List, length, get_or, ⊎_elim, fold, replicate, refl, sym, ◌∙◌, ap, arith, bit_xor}
 use Rattle.std.proofs.Math.Nat.{add-mul, mul-add, two-pow-succ, pow-suc, div-div-eq-div-mul}
 use Rattle.std.specs.Prelude.{slice_set}
 use Rattle.std.proofs.lemmas.Bool.{cases_eq}
@@ -7,26 +7,9 @@ use Rattle.std.proofs.lemmas.List.{get_or-set_same, get_or-set_other}
 use Rattle.std.proofs.lemmas.Nat.{xor_comm, shl_below}
 use Rattle.std.specs.Int.Bits.{xor_zero_r, xor_shifted}
 use lib.Bits.{xor_assoc}
-use Rattle.ddf_seal.specs.Crc.{bit_step, bit_steps, byte_step}
-use Rattle.ddf_linux.specs.CrcLaws.{bit_steps_linear}
+use Rattle.ddf_seal.specs.Crc.{bit_steps, byte_step}
+use Rattle.ddf_seal.proofs.CrcTables.{bit_steps-add, bit_steps-xor}
 use Rattle.ddf_linux.specs.Zeros.{AreImages}
-
-pub bit_steps_more : (count i register : ℕ) → i < count → bit_steps (count - i) register ≡ bit_steps (count - (i + 1)) (bit_step register)
-unfolding bit_steps
-bit_steps_more count i register lt =
-    let k : count - i ≡ suc (count - (i + 1)) = omega arith in
-    rw k refl
-
-pub bit_steps_all : (count i register : ℕ) → count ≤ i → bit_steps (count - i) register ≡ register
-unfolding bit_steps
-bit_steps_all count i register le =
-    let k : count - i ≡ 0 = omega arith in
-    rw k refl
-
-pub bit_steps_then : (n m register : ℕ) → bit_steps (n + m) register ≡ bit_steps m (bit_steps n register)
-unfolding bit_steps
-bit_steps_then zero m register = let k : zero + m ≡ m = omega arith in rw k refl
-bit_steps_then (suc n) m register = let k : suc n + m ≡ suc (n + m) = omega arith in rw k (bit_steps_then n m (bit_step register))
 
 pub bit_steps_zero : (n : ℕ) → bit_steps n 0 ≡ 0
 unfolding bit_steps
@@ -41,7 +24,7 @@ zeros_are (suc count) register =
     let k : 8 * suc count ≡ 8 + 8 * count = omega arith in
     zeros_are count (byte_step register 0)
     ∙ ap (λ (start : ℕ). bit_steps (8 * count) (bit_steps 8 start)) (xor_zero_r register)
-    ∙ sym (rw k (bit_steps_then 8 (8 * count) register))
+    ∙ sym (rw k (bit_steps-add 8 (8 * count) register))
 
 -- the bits of a register from one on: the lowest of them, and the others
 bits_from : (rest bit : ℕ) → bit_xor (rest / 2 * 2 ^ (bit + 1)) (rest % 2 * 2 ^ bit) ≡ rest * 2 ^ bit
@@ -62,7 +45,7 @@ bits_from rest bit =
     ∙ ap (λ (m : ℕ). m * p) parts
 
 steps_from : (count rest bit : ℕ) → bit_xor (bit_steps count (rest / 2 * 2 ^ (bit + 1))) (bit_steps count (rest % 2 * 2 ^ bit)) ≡ bit_steps count (rest * 2 ^ bit)
-steps_from count rest bit = sym (bit_steps_linear count (rest / 2 * 2 ^ (bit + 1)) (rest % 2 * 2 ^ bit)) ∙ ap (bit_steps count) (bits_from rest bit)
+steps_from count rest bit = sym (bit_steps-xor count (rest / 2 * 2 ^ (bit + 1)) (rest % 2 * 2 ^ bit)) ∙ ap (bit_steps count) (bits_from rest bit)
 
 -- The images so far, with one more: the others are those of the bits that are left.
 pub sum_more : (count : ℕ) (images : List ℕ) (sum rest bit : ℕ) → AreImages count images → bit < 32 → rest % 2 ≡ 1
@@ -90,7 +73,7 @@ none_left count sum register small =
 
 -- twice as many zeros
 pub images_twice : (count : ℕ) (images : List ℕ) (bit : ℕ) → AreImages count images → bit < 32 → bit_steps count (get_or images bit 0) ≡ bit_steps (count + count) (2 ^ bit)
-images_twice count images bit are lt = ap (bit_steps count) (are bit lt) ∙ sym (bit_steps_then count count (2 ^ bit))
+images_twice count images bit are lt = ap (bit_steps count) (are bit lt) ∙ sym (bit_steps-add count count (2 ^ bit))
 
 -- So many steps, as many times as a number says: half as many times twice as many, and once more where it is odd.
 pub times_half : (steps rest register : ℕ) → rest % 2 ≢ 1 → bit_steps ((steps + steps) * (rest / 2)) register ≡ bit_steps (steps * rest) register
@@ -104,7 +87,7 @@ times_odd steps rest register odd =
     let q = rest / 2 in
     let parts : 1 + (q + q) ≡ rest = omega arith in
     let once : steps * 1 ≡ steps = omega arith in
-    sym (bit_steps_then steps ((steps + steps) * q) register)
+    sym (bit_steps-add steps ((steps + steps) * q) register)
     ∙ ap (λ (n : ℕ). bit_steps n register)
     (ap (λ (n : ℕ). n + (steps + steps) * q) (sym once)
     ∙ ap (λ (n : ℕ). steps * 1 + n) (add-mul steps steps q ∙ sym (mul-add steps q q))

@@ -1,10 +1,10 @@
 -- Turning is its own inverse and keeps the length and the signature.
-use Rattle.std.specs.Prelude.{◌≡◌, ◌⊎◌, ◌<◌, ◌≤◌, ℕ, zero, suc, slice_index, List, [], ◌∷◌, length, bit_xor, Option, Some, None, is_some, false, take, drop}
-use Rattle.std.specs.Int.Bits.{xor_self, xor_zero_r}
-use lib.Bits.{xor_assoc}
+use Rattle.std.specs.Prelude.{◌≡◌, ◌⊎◌, ◌<◌, ◌≤◌, ℕ, zero, suc, slice_index, List, [], ◌∷◌, length, Option, Some, None, is_some, false, take, drop}
+use Rattle.std.specs.Int.Bits.{xor_zero_r}
 use Rattle.std.proofs.Common.{refl, ap, sym, ◌∙◌, subst, arith}
 use Rattle.std.proofs.lemmas.Nat.{xor_lt}
 use Rattle.std.specs.Int.{w32, w64, from_be_bytes, to_be_bytes}
+use Rattle.ddf_lemmas.proofs.Tests.{back_from_sum}
 use Rattle.ddf_bytes.specs.Bytes.{number_at}
 use Rattle.ddf_header.specs.declared.layout.TheConstants.{PRIMARY_LBA_AT, SECONDARY_LBA_AT}
 use Rattle.ddf_linux.specs.Turning.{added}
@@ -18,14 +18,11 @@ use Rattle.ddf_linux.specs.Kinds.{kind_at, kind_constant, turned_by, turn, turns
 use Rattle.ddf_linux.specs.Places.{constant_at, names, signature_of}
 use Rattle.ddf_linux.specs.declared.places.Places.{Places}
 
-pub xor_twice : (a m : ℕ) → bit_xor (bit_xor a m) m ≡ a
-xor_twice a m = xor_assoc a m m ∙ ap (bit_xor a) (xor_self m) ∙ xor_zero_r a
-
 pub added_twice : (bytes mask : List ℕ) → added (added bytes mask) mask ≡ bytes
 unfolding added
 added_twice bytes [] = refl
 added_twice [] (m ∷ mask) = refl
-added_twice (byte ∷ bytes) (m ∷ mask) = rw (xor_twice byte m, added_twice bytes mask) refl
+added_twice (byte ∷ bytes) (m ∷ mask) = rw (back_from_sum byte m, added_twice bytes mask) refl
 
 pub added_length : (bytes mask : List ℕ) → length (added bytes mask) ≡ length bytes
 unfolding added

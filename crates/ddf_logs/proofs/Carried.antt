@@ -55,10 +55,10 @@ module _ (last : ℕ) (kept : List Stretch) where
   same_given (Some one) None size is = absurd is
   same_given None (Some other) size is = absurd is
 
-block_same : (block : BadBlock) → same_block block block ≡ true
+pub block_same : (block : BadBlock) → same_block block block ≡ true
 block_same block = and_from _ _ (and_from _ _ (eq-eqb block.start block.start refl) (eq-eqb block.spare block.spare refl)) (eq-eqb block.count block.count refl)
 
-blocks_same : (blocks : List BadBlock) → pointwise same_block blocks blocks ≡ true
+pub blocks_same : (blocks : List BadBlock) → pointwise same_block blocks blocks ≡ true
 blocks_same [] = refl
 blocks_same (block ∷ blocks) = and_from _ _ (block_same block) (blocks_same blocks)
 
@@ -115,7 +115,7 @@ module _ (last : ℕ) (anchor : Header) (other : DiskCopy) where
   all_give level (Err fault) (Err other_fault) first second (inr whole) = absurd cc
 
 -- there is one
-there_is : (size : ℕ) (sector : ℕ → List ℕ) (anchor : Header) (place : Which) (copy : DiskCopy) → copy_of size sector anchor place ≡ Ok copy
+pub there_is : (size : ℕ) (sector : ℕ → List ℕ) (anchor : Header) (place : Which) (copy : DiskCopy) → copy_of size sector anchor place ≡ Ok copy
     → ((copy : DiskCopy) × (copy_of size sector anchor Primary ≡ Ok copy)) ⊎ ((copy : DiskCopy) × (copy_of size sector anchor Secondary ≡ Ok copy))
 there_is size sector anchor Primary copy is = inl (copy, is)
 there_is size sector anchor Secondary copy is = inr (copy, is)

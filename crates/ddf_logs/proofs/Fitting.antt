@@ -1,5 +1,6 @@
 -- The exchange of a log that fits a copy of a disk leaves both of its copies.
 use Rattle.std.proofs.Common.{◌≡◌, ◌+◌, ◌-◌, ℕ, true, List, Ok, ap, ◌∙◌, sym, subst}
+use Rattle.ddf_lemmas.proofs.Lists.{all_from}
 use Rattle.ddf_header.specs.declared.reading.Header.{Header}
 use Rattle.ddf_tables.specs.BadBlocks.{LogValue}
 use Rattle.ddf_copy.specs.declared.copy.DiskCopy.{DiskCopy}
@@ -11,7 +12,7 @@ use Rattle.ddf_badblocks.specs.Fits.{fits, ranges_of}
 use Rattle.ddf_badblocks.specs.FitsLaws.{fits_keeps, fits_last}
 use Rattle.ddf_badblocks.specs.Ranges.{swap}
 use Rattle.ddf_logs.specs.Kept.{kept_under}
-use Rattle.ddf_logs.proofs.Staying.{Stays, all_from, both_stay}
+use Rattle.ddf_logs.proofs.Staying.{Stays, both_stay}
 use Rattle.ddf_logs.proofs.Laid.{copy_eight, copy_sound}
 
 module _ (size last : ℕ) (back : last + 1 ≡ size) (front : size - 1 ≡ last)

@@ -25,7 +25,7 @@ use Rattle.ddf_logs.proofs.Carried.{logs_own, same_exchange}
 pub written_carries : (new : DiskCopy) (which : Which) → CarriesLogOf new (written_as new which)
 written_carries new which = record { logs = logs_own new.bad; sections = refl; sectors = refl }
 
-place_is : (last which : Which) → (which ≡ last) ⊎ (which ≡ other_of last)
+pub place_is : (last which : Which) → (which ≡ last) ⊎ (which ≡ other_of last)
 place_is Primary Primary = inl refl
 place_is Primary Secondary = inr refl
 place_is Secondary Primary = inr refl

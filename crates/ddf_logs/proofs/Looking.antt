@@ -1,19 +1,14 @@
 -- The slots of a bay, looked at one after another.
-use Rattle.std.proofs.Common.{◌≡◌, ℕ, ◌+◌, ◌<◌, ◌≤◌, List, [], ◌∷◌, ◌++◌, length, get_or, Bool, true, false, refl, sym, ap, subst, ⊎_elim, ◌∙◌, arith, length-append, add-zero}
-use Rattle.std.specs.Prelude.{Result, Ok, Err, IfOk, slice_index}
+use Rattle.std.proofs.Common.{◌≡◌, ℕ, ◌+◌, ◌<◌, ◌≤◌, List, [], ◌∷◌, ◌++◌, length, get_or, Bool, true, false, refl, sym, ap, subst, ⊎_elim, ◌∙◌, arith, length-append}
+use Rattle.std.specs.Prelude.{slice_index}
 use Rattle.std.proofs.lemmas.Bool.{cases_lt}
-use Rattle.std.proofs.lemmas.List.{get_or_append_left, get_or-append-add}
+use Rattle.ddf_lemmas.proofs.Lists.{earlier_of, last_of}
 use Rattle.ddf_bay.specs.State.{BayState}
 use Rattle.ddf_bay.specs.ReadsOnly.{AreFailed, LooksAt, SlotSame}
 use Rattle.ddf_bay.proofs.Looks.{failed_more, later_more, none_failed}
 use Rattle.ddf_badblocks.specs.declared.range.Range.{Range}
 use Rattle.ddf_badblocks.specs.Ranges.{are_exchangeable}
 use Rattle.ddf_logs.specs.Looks.{AreLooks, exchange_or}
-
--- what holds at Ok, by what does
-pub if_ok_then : {T E : Type 0} {P Q : T → Type 0} (r : Result T E) → ((x : T) → P x → Q x) → IfOk r P → IfOk r Q
-if_ok_then (Ok x) f p = f x p
-if_ok_then (Err e) f p = p
 
 -- no call was made
 pub looks_none : {D : Type 0} (a : BayState D) (slot : ℕ) → LooksAt a a slot false
@@ -27,12 +22,6 @@ looks_none a slot = record {
 }
 
 -- ---- the last of a list with one more
-
-last_of : {X : Type 0} (xs : List X) (x d : X) → get_or (xs ++ x ∷ []) (length xs) d ≡ x
-last_of xs x d = ap (λ (n : ℕ). get_or (xs ++ x ∷ []) n d) (sym (add-zero (length xs))) ∙ get_or-append-add xs (x ∷ []) 0 d
-
-earlier_of : {X : Type 0} (xs : List X) (x d : X) (s : ℕ) → s < length xs → get_or (xs ++ x ∷ []) s d ≡ get_or xs s d
-earlier_of xs x d s lt = get_or_append_left xs (x ∷ []) d s lt
 
 -- So many slots were looked at.
 pub record IsPartway {D : Type 0} (tells : Type 0) (old now : BayState D) (slot : ℕ) (failed : List Bool) (ranges : List (List Range)) : Type 0 where

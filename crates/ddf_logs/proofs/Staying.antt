@@ -1,9 +1,10 @@
 -- An exchange that leaves what is kept for a disk's records leaves each sector of its two copies.
-use Rattle.std.proofs.Common.{◌≡◌, ℕ, zero, suc, ◌+◌, ◌<◌, ◌≤◌, List, [], ◌∷◌, ◌++◌, length, Some, refl, ⊎_elim, arith}
+use Rattle.std.proofs.Common.{◌≡◌, ℕ, zero, suc, ◌+◌, ◌<◌, ◌≤◌, List, [], ◌∷◌, length, Some, ⊎_elim, arith}
 use Rattle.std.proofs.Math.Nat.{div-mul-le_self}
 use Rattle.std.proofs.lemmas.Bool.{ne_eqb}
 use Rattle.std.specs.Prelude.{slice_get}
 use Rattle.std.specs.List.{AllByRecursion, flat_map}
+use Rattle.ddf_lemmas.proofs.Lists.{first_all, second_all}
 use Rattle.ddf_header.specs.declared.geometry.Section.{Section}
 use Rattle.ddf_header.specs.declared.geometry.Geometry.{Geometry}
 use Rattle.ddf_header.specs.declared.reading.Header.{Header}
@@ -19,18 +20,6 @@ use Rattle.ddf_logs.specs.Kept.{copy_stretches, kept_under, stretch_of, stretche
 -- each sector of a stretch is where it is seen
 abbrev pub Stays : (ℕ → ℕ) → Stretch → Type 0
 Stays at stretch = (l : ℕ) → stretch.start ≤ l → l < stretch.start + stretch.length → at l ≡ l
-
-pub all_from : {X : Type 0} (P : X → Type 0) (xs : List X) → ((place : ℕ) (x : X) → slice_get xs place ≡ Some x → P x) → AllByRecursion P xs
-all_from P [] each = tt
-all_from P (x ∷ xs) each = (each 0 x refl, all_from P xs (λ place y is. each (suc place) y is))
-
-first_all : {X : Type 0} (P : X → Type 0) (xs ys : List X) → AllByRecursion P (xs ++ ys) → AllByRecursion P xs
-first_all P [] ys all = tt
-first_all P (x ∷ xs) ys all = (all.0, first_all P xs ys all.1)
-
-second_all : {X : Type 0} (P : X → Type 0) (xs ys : List X) → AllByRecursion P (xs ++ ys) → AllByRecursion P ys
-second_all P [] ys all = all
-second_all P (x ∷ xs) ys all = second_all P xs ys all.1
 
 -- a section that is there
 one_stays : (at : ℕ → ℕ) (lba : ℕ) (section : Section) → 0 < section.length → AllByRecursion (Stays at) (stretches_of lba section) → Stays at (stretch_of lba section)

@@ -1,9 +1,10 @@
 -- Where nothing stands in the way, a moved copy lies apart from all that stays.
-use Rattle.std.proofs.Common.{◌≡◌, ℕ, zero, suc, ◌+◌, ◌-◌, ◌*◌, ◌<◌, ◌≤◌, Bool, true, false, not, ◌&&◌, ◌||◌, eqb, List, [], ◌∷◌, length, Some, None, inl, inr, refl, sym, ap, subst, arith}
+use Rattle.std.proofs.Common.{◌≡◌, ℕ, ◌+◌, ◌-◌, ◌*◌, ◌<◌, ◌≤◌, true, false, not, ◌&&◌, ◌||◌, eqb, List, length, Some, None, inl, inr, refl, sym, ap, subst, arith}
 use Rattle.std.specs.Prelude.{slice_get, is_some}
 use Rattle.std.specs.List.{list_any}
 use Rattle.std.proofs.Math.Nat.{div-mul-le_self}
-use Rattle.std.proofs.lemmas.Bool.{lt-ltb, ltb-false, leb-false, ne_eqb}
+use Rattle.std.proofs.lemmas.Bool.{ltb-false, leb-false, ne_eqb, or_parts}
+use Rattle.ddf_lemmas.proofs.Lists.{none_any}
 use Rattle.ddf_bytes.proofs.Nones.{none_first, none_when}
 use Rattle.ddf_config.specs.declared.extent.Extent.{Extent}
 use Rattle.ddf_header.specs.declared.geometry.Geometry.{Geometry}
@@ -20,7 +21,7 @@ use Rattle.ddf_copy.specs.Runs.{IsInParts, parts_of}
 use Rattle.ddf_copy.specs.Which.{other_of, place_of}
 use Rattle.ddf_copy.specs.Written.{CanBeCopy}
 use Rattle.ddf_copy.proofs.Anchored.{anchor_shares}
-use Rattle.ddf_copy.proofs.Laid.{eight_sections, section_found}
+use Rattle.ddf_copy.proofs.Laid.{eight_sections, section_found, unshared}
 use Rattle.ddf_import.specs.declared.places.Moved.{Moved}
 use Rattle.ddf_update.specs.Update.{IsOfCopy}
 use Rattle.ddf_update.proofs.NewRoom.{has_room}
@@ -31,24 +32,6 @@ use Rattle.ddf_moving.specs.Places.{copy_length, moved_geometry}
 use Rattle.ddf_moving.proofs.Can.{IsMovedTo, IsPlaced, has_moved, moved_to, relaid_can, sound_like}
 use Rattle.ddf_moving.proofs.Laid.{copy_within, sections_near}
 use Rattle.ddf_moving.proofs.Lengths.{some_length}
-
--- ---- sectors that aren't shared
-
-neither : (a b : Bool) → (a || b) ≡ false → (a ≡ false) × (b ≡ false)
-neither true b h = absurd cc
-neither false b h = (refl, h)
-
-none_any : {X : Type 0} (p : X → Bool) (xs : List X) (i : ℕ) (x : X) → list_any p xs ≡ false → slice_get xs i ≡ Some x → p x ≡ false
-none_any p [] i x h at = absurd cc
-none_any p (y ∷ ys) zero x h at = let same : y ≡ x = cc in rw same at (neither (p y) (list_any p ys) h).0
-none_any p (y ∷ ys) (suc i) x h at = none_any p ys i x (neither (p y) (list_any p ys) h).1 at
-
-no_shared : (one many other more l : ℕ) → share one many other more ≡ false → one ≤ l → l < one + many → other ≤ l → l < other + more → ⊥
-no_shared one many other more l none from below there before =
-    let first = lt-ltb one (other + more) (omega (arith, from, before)) in
-    let second = lt-ltb other (one + many) (omega (arith, there, below)) in
-    let both : true ≡ false = rw (first, second) at none in
-    absurd cc
 
 -- ---- the sectors of a copy are those of its header and its sections
 
@@ -76,23 +59,23 @@ in_section geometry is found lba l (inr (inr (inr (inr (inr (inr none)))))) = ab
 none_met : (copy : DiskCopy) → CanBeCopy copy → (lba from many l : ℕ) → meets_copy lba copy.header.geometry.sections from many ≡ false → from ≤ l → l < from + many
     → IsOfCopy lba copy.header.geometry l → ⊥
 none_met copy can lba from many l none above below (inl header) =
-    let parts = neither (share from many lba 1) (list_any (has_sector_of lba from many) copy.header.geometry.sections) none in
-    no_shared from many lba 1 l parts.0 above below (omega (arith, header)) (omega (arith, header))
+    let parts = or_parts (share from many lba 1) (list_any (has_sector_of lba from many) copy.header.geometry.sections) none in
+    unshared from many lba 1 l parts.0 above below (omega (arith, header)) (omega (arith, header))
 none_met copy can lba from many l none above below (inr part) =
     let geometry = copy.header.geometry in
     let found : (k : ℕ) → k < 8 → slice_get geometry.sections k ≡ Some (section_of geometry k) = λ k lt. section_found geometry k (eight_sections copy can) lt in
     let is = in_section geometry (sound geometry can.header_can.is_header.has_geometry) found lba l part in
     let section = section_of geometry is.0 in
-    let parts = neither (share from many lba 1) (list_any (has_sector_of lba from many) geometry.sections) none in
+    let parts = or_parts (share from many lba 1) (list_any (has_sector_of lba from many) geometry.sections) none in
     let here : (not (is_absent section) && share from many (lba + section.offset) section.length) ≡ false = none_any (has_sector_of lba from many) geometry.sections is.0 section parts.1 (found is.0 is.1) in
     let present : eqb section.length 0 ≡ false = ne_eqb section.length 0 (λ (e : section.length ≡ 0). absurd (omega (arith, e, is.2.0, is.2.1))) in
-    no_shared from many (lba + section.offset) section.length l (rw present at here) above below is.2.0 is.2.1
+    unshared from many (lba + section.offset) section.length l (rw present at here) above below is.2.0 is.2.1
 
 none_of_extent : (from many l : ℕ) (extent : Extent) → meets_extent (record { from = from; many = many }) extent ≡ false → from ≤ l → l < from + many
     → extent.start ≤ l → l < extent.start + extent.blocks → ⊥
 none_of_extent from many l extent none above below there before =
     let some : eqb extent.blocks 0 ≡ false = ne_eqb extent.blocks 0 (λ (e : extent.blocks ≡ 0). absurd (omega (arith, e, there, before))) in
-    no_shared from many extent.start extent.blocks l (rw some at none) above below there before
+    unshared from many extent.start extent.blocks l (rw some at none) above below there before
 
 -- ---- what it says that there is no obstacle
 
@@ -109,10 +92,10 @@ is_free old like size room extents none =
     let geometry = old.header.geometry in
     let end = end_of_workspace geometry room in
     let all = none_first (obstacles_of old like size room extents) none in
-    let workspace = neither (reaches_anchor geometry size) (is_short geometry room) (none_when (reaches_anchor geometry size || is_short geometry room) _ all.0) in
-    let copies = neither (meets_copy old.header.primary_lba geometry.sections end.from end.many) (meets_copy old.header.secondary_lba geometry.sections end.from end.many)
+    let workspace = or_parts (reaches_anchor geometry size) (is_short geometry room) (none_when (reaches_anchor geometry size || is_short geometry room) _ all.0) in
+    let copies = or_parts (meets_copy old.header.primary_lba geometry.sections end.from end.many) (meets_copy old.header.secondary_lba geometry.sections end.from end.many)
     (none_when (end_meets_copies old end) _ all.1.0) in
-    let extent = neither (list_any (meets_extent end) extents) (list_any (meets_extent (front_of geometry)) extents)
+    let extent = or_parts (list_any (meets_extent end) extents) (list_any (meets_extent (front_of geometry)) extents)
     (none_when (list_any (meets_extent end) extents || list_any (meets_extent (front_of geometry)) extents) _ all.1.1.1.0) in
     record {
       ends = leb-false size (geometry.workspace_lba + geometry.workspace_length) workspace.0;

@@ -5,6 +5,7 @@ use Rattle.std.proofs.Math.Nat.{le-max_left, le-max_right}
 use Rattle.std.proofs.lemmas.Bool.{ne_eqb}
 use Rattle.ddf_header.specs.declared.geometry.Section.{Section}
 use Rattle.ddf_header.specs.declared.geometry.Geometry.{Geometry}
+use Rattle.ddf_copy.proofs.Laid.{get_take}
 use Rattle.ddf_moving.specs.Places.{copy_length, end_of}
 
 -- the longer of a copy and of what ends with a section
@@ -27,12 +28,6 @@ fold_each start (first ∷ sections) zero section at =
     let ends : end_of first ≡ end_of section = ap (λ (one : Section). end_of one) same in
     omega (arith, here, rest, ends)
 fold_each start (first ∷ sections) (suc k) section at = fold_each (max start (end_of first)) sections k section at
-
-get_take : (sections : List Section) (count k : ℕ) → k < count → slice_get (take count sections) k ≡ slice_get sections k
-get_take sections zero k lt = absurd (omega (arith, lt))
-get_take [] (suc count) k lt = refl
-get_take (section ∷ sections) (suc count) zero lt = refl
-get_take (section ∷ sections) (suc count) (suc k) lt = get_take sections count k (omega (arith, lt))
 
 pub some_length : (geometry : Geometry) → 1 ≤ copy_length geometry
 unfolding copy_length

@@ -3,23 +3,11 @@ use Rattle.std.proofs.Common.{◌≡◌, ℕ, zero, suc, ◌+◌, ◌-◌, Bool,
 use Rattle.std.specs.Prelude.{is_some}
 use Rattle.std.specs.List.{AllByRecursion, IsDistinct, cons_option, filter_map}
 use Rattle.std.proofs.lemmas.List.{length-append, length-replicate}
+use Rattle.ddf_lemmas.proofs.Lists.{all_filter, all_taken}
 use Rattle.ddf_tables.specs.Rows.{HaveOwnNames}
 use Rattle.ddf_moving.specs.Copies.{filled}
 
 -- ---- each of them
-
-all_taken : {X : Type 0} (P : X → Type 0) (n : ℕ) (xs : List X) → AllByRecursion P xs → AllByRecursion P (take n xs)
-all_taken P zero xs all = tt
-all_taken P (suc n) [] all = tt
-all_taken P (suc n) (x ∷ xs) all = (all.0, all_taken P n xs all.1)
-
-all_if : {X : Type 0} (P : X → Type 0) (b : Bool) (x : X) (xs : List X) → P x → AllByRecursion P xs → AllByRecursion P (cond b (x ∷ xs) xs)
-all_if P true x xs here all = (here, all)
-all_if P false x xs here all = all
-
-all_filtered : {X : Type 0} (P : X → Type 0) (p : X → Bool) (xs : List X) → AllByRecursion P xs → AllByRecursion P (filter p xs)
-all_filtered P p [] all = tt
-all_filtered P p (x ∷ xs) all = all_if P (p x) x (filter p xs) all.0 (all_filtered P p xs all.1)
 
 all_behind : {X : Type 0} (P : X → Type 0) (xs : List X) (count : ℕ) (x : X) → AllByRecursion P xs → P x → AllByRecursion P (xs ++ replicate count x)
 all_behind P [] zero x all one = tt
@@ -29,7 +17,7 @@ all_behind P (y ∷ ys) count x all one = (all.0, all_behind P ys count x all.1 
 -- a fact of each row is one of each row that is filled in
 pub all_filled : {Row : Type 0} (P : Row → Type 0) (p : Row → Bool) (unused : Row) (max : ℕ) (rows : List Row) → AllByRecursion P rows → P unused → AllByRecursion P (filled unused max (filter p rows))
 all_filled P p unused max rows all one =
-    all_behind P (take max (filter p rows)) (max - length (filter p rows)) unused (all_taken P max (filter p rows) (all_filtered P p rows all)) one
+    all_behind P (take max (filter p rows)) (max - length (filter p rows)) unused (all_taken P max (filter p rows) (all_filter P p rows all)) one
 
 length_taken : {X : Type 0} (n : ℕ) (xs : List X) → length (take n xs) + (n - length xs) ≡ n
 length_taken zero xs = omega arith

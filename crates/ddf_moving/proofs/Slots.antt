@@ -5,7 +5,7 @@ use Rattle.std.specs.List.{AllByRecursion, list_any, range_with_len}
 use Rattle.std.specs.Option.{option_map_or}
 use Rattle.std.specs.Int.{w32}
 use Rattle.std.specs.Str.{bytes_eq}
-use Rattle.std.proofs.lemmas.Bool.{and_parts, eqb-true, le-ltb, leb-true}
+use Rattle.std.proofs.lemmas.Bool.{and_parts, eqb-true, le-ltb, leb-true, not-true}
 use Rattle.std.proofs.lemmas.List.{length-replicate}
 use Rattle.ddf_bytes.specs.Bytes.{bytes_at, number_at}
 use Rattle.ddf_bytes.specs.Choices.{first_of, when}
@@ -58,10 +58,6 @@ same_name one other same = ap (λ (name : List ℕ). bytes_eq name (codes "RDDFN
 unnamed : (most count : ℕ) (bytes : List ℕ) → is_named bytes ≡ false → is_notes most count bytes ≡ false
 unfolding is_notes
 unnamed most count bytes none = rw none refl
-
-not_true : (b : Bool) → not b ≡ true → b ≡ false
-not_true true is = cc
-not_true false is = refl
 
 -- ---- an element
 
@@ -195,7 +191,7 @@ module _ (old like : Geometry) (sound : IsSound like) where
       if_can count (same_records old like && not (is_named rest)) (slots.Vendor guid rest) (λ fits.
       let parts = and_parts (same_records old like) (not (is_named rest)) fits in
       let is = vendor_can guid rest can.0 (same_most parts.0).1 in
-      (is, not_notes count guid rest is (not_true (is_named rest) parts.1), refl))
+      (is, not_notes count guid rest is (not-true (is_named rest) parts.1), refl))
   slot_can count before listed (slots.Unread fault kept) can = if_can count (same_records old like) (slots.Unread fault kept) (λ fits. unread_can fault kept can (same_most fits))
   slot_can count before listed (slots.Copied element) can = unused_can count false
   slot_can count before listed (slots.Notes notes) can = unused_can count false

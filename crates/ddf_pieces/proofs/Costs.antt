@@ -1,8 +1,9 @@
 -- The costs of writes of neighbouring ranges of blocks.
-use Rattle.std.proofs.Common.{◌≡◌, ◌∙◌, ℕ, zero, suc, ◌+◌, Bool, true, false, List, ◌∷◌, ◌++◌, Option, Some, None, refl, ap, arith, length, slice_get}
+use Rattle.std.proofs.Common.{◌≡◌, ◌∙◌, ℕ, ◌+◌, Bool, true, false, Option, Some, None, refl, ap, length, slice_get}
 use Rattle.std.specs.Prelude.{if◌then◌else◌}
 use Rattle.std.specs.List.{range_with_len, sum_by}
 use Rattle.std.proofs.lemmas.List.Sums.{sum_by-append}
+use Rattle.ddf_lemmas.proofs.Lists.{range-append}
 use Rattle.ddf_array.specs.declared.part.Part.{Part}
 use Rattle.ddf_array.specs.Levels.{keeps_parity}
 use Rattle.ddf_array.specs.Sources.{copies}
@@ -11,19 +12,9 @@ use Rattle.ddf_cells.specs.CellsOn.{copy_cells}
 use Rattle.ddf_write.specs.RowWrites.{parity_cells, parity_cells_of, row_cells}
 use Rattle.ddf_write.proofs.CellsCount.{sum_plus, sum_same}
 
-range_joined : (start a b : ℕ) → range_with_len start (a + b) ≡ range_with_len start a ++ range_with_len (start + a) b
-range_joined start zero b =
-    let none : zero + b ≡ b = omega arith in
-    let here : start ≡ start + zero = omega arith in
-    ap (range_with_len start) none ∙ ap (λ n. range_with_len n b) here
-range_joined start (suc a) b =
-    let more : suc a + b ≡ suc (a + b) = omega arith in
-    let here : start + 1 + a ≡ start + suc a = omega arith in
-    ap (range_with_len start) more ∙ ap (λ (l : List ℕ). start ∷ l) (range_joined (start + 1) a b ∙ ap (λ n. range_with_len (start + 1) a ++ range_with_len n b) here)
-
 pub copy_cells_joined : (v : Volume) (start a b : ℕ) → copy_cells v start (a + b) ≡ copy_cells v start a + copy_cells v (start + a) b
 copy_cells_joined v start a b =
-    ap (sum_by (λ block. length (copies v block))) (range_joined start a b)
+    ap (sum_by (λ block. length (copies v block))) (range-append start a b)
     ∙ sum_by-append (λ block. length (copies v block)) (range_with_len start a) (range_with_len (start + a) b)
 
 by_parity : (a b : ℕ) (keeps : Bool) → (if keeps then a + b else 0) ≡ (if keeps then a else 0) + (if keeps then b else 0)

@@ -3,6 +3,7 @@ use Rattle.std.proofs.Common.{◌≡◌, ◌∙◌, ◌⊎◌, inl, inr, ⊎_eli
 use Rattle.std.specs.Prelude.{slice_index_or}
 use Rattle.std.proofs.lemmas.Bool.{cases_lt}
 use Rattle.std.proofs.lemmas.List.{get_or_append_left, get_or-append_right}
+use Rattle.ddf_lemmas.proofs.Options.{some_is}
 use Rattle.ddf_bay.specs.State.{BayState}
 use Rattle.ddf_bay.proofs.Steps.{stops_start, stops_then}
 use Rattle.ddf_array.specs.declared.part.Part.{Part}
@@ -27,9 +28,6 @@ use Rattle.ddf_write.proofs.WriteLeaves.{cell_stays}
 use Rattle.ddf_pieces.specs.Writing.{ArePut, LeaveWrites}
 use Rattle.ddf_pieces.proofs.Costs.{copy_cells_joined, row_cells_joined}
 use Rattle.ddf_pieces.proofs.Ranges.{give_behind, give_front, longer, parity_with, touched_split, written_behind, written_split, written_wider}
-
-some_is : {X : Type 0} {a b : X} → Some a ≡ Some b → a ≡ b
-some_is e = cc
 
 module _ {D : Type 0} (tells : Type 0) (v : Volume) (start : ℕ) (xs ys : List (List ℕ)) {a b c : BayState D} (first : LeaveWrites tells a b v start xs) (next : LeaveWrites tells b c v (start + length xs) ys) where
   -- what they leave

@@ -1,7 +1,7 @@
 -- Blocks that come and are written piece by piece.
 use Rattle.std.proofs.Common.{◌≡◌, ◌∙◌, inl, inr, ⊎_elim, ℕ, zero, suc, ◌+◌, ◌-◌, ◌*◌, ◌<◌, ◌≤◌, Bool, false, true, List, [], ◌∷◌, ◌++◌, None, Ok, Err, length, sym, ap, subst, refl, arith, append_assoc, length-append}
 use Rattle.std.proofs.lemmas.Bool.{cases_lt}
-use Rattle.std.proofs.lemmas.List.{append-nil}
+use Rattle.std.proofs.lemmas.List.{append-nil, nil_from_length}
 use Rattle.ddf_bytes.specs.Counts.{Rose}
 use Rattle.ddf_bytes.specs.Streams.{SourceState}
 use Rattle.ddf_bay.specs.State.{BayState}
@@ -35,10 +35,6 @@ sectors_joined [] ys first next k sector at = next k sector at
 sectors_joined (x ∷ xs) ys first next zero sector at = first zero sector at
 sectors_joined (x ∷ xs) ys first next (suc k) sector at = sectors_joined xs ys (λ j one is. first (suc j) one is) next k sector at
 
-none_long : (sectors : List (List ℕ)) → length sectors ≡ 0 → sectors ≡ []
-none_long [] long = refl
-none_long (sector ∷ sectors) long = absurd (omega (arith, long))
-
 -- Before the first piece nothing has come, and behind it these sectors have.
 pub record IsCome (tells : Type 0) (old now : SourceState) (first : List ℕ) (sectors : List (List ℕ)) (at : ℕ) : Type 0 where
   pub none : at ≡ 0 → now.left ≡ old.left
@@ -54,7 +50,7 @@ module _ (tells : Type 0) (old now new : SourceState) (first : List ℕ) (xs ys 
     (long : length xs ≡ at) (some : 0 < size) (whole : AreSectorsOf512 ys) where
   come_first : at ≡ 0 → HaveCome tells old first (xs ++ ys) new.left
   come_first none =
-      let empty : xs ≡ [] = none_long xs (omega (arith, long, none)) in
+      let empty : xs ≡ [] = nil_from_length xs (omega (arith, long, none)) in
       let both : xs ++ ys ≡ ys = ap (λ (l : List (List ℕ)). l ++ ys) empty in
       let is = next.is_first none in
       record {
@@ -161,7 +157,7 @@ module _ {D : Type 0} (tells : Type 0) (v : Volume) (start count each ahead : �
       where
         no_blocks : at ≡ 0 → AreGivenBlocks tells old now v start count each ahead 0 Put source_tells before mid first so_far.sectors mid.left
         no_blocks zero_at =
-            let empty : so_far.sectors ≡ [] = none_long so_far.sectors (omega (arith, so_far.long, zero_at)) in
+            let empty : so_far.sectors ≡ [] = nil_from_length so_far.sectors (omega (arith, so_far.long, zero_at)) in
             let nothing : count ≡ 0 = omega (arith, all, zero_at) in
             record {
               accepted = accepted;

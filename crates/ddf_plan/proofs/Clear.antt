@@ -1,8 +1,10 @@
 -- The extents of a new array: each lies at a free start.
-use Rattle.std.proofs.Common.{◌≡◌, ℕ, Bool, true, false, ◌&&◌, List, [], ◌∷◌, Option, Some, None, map, find, cond, is_none, option_map, option_and_then, unwrap_or, nat_eq, refl, ap, subst, ◌∙◌}
+use Rattle.std.proofs.Common.{◌≡◌, ℕ, Bool, true, false, List, [], ◌∷◌, Option, Some, None, map, find, cond, is_none, option_map, option_and_then, unwrap_or, nat_eq, refl, ◌∙◌}
 use Rattle.std.specs.Map.{lookup}
 use Rattle.std.specs.List.{list_all, flat_map}
 use Rattle.std.proofs.lemmas.List.Folds.{list_all-append}
+use Rattle.std.proofs.lemmas.Bool.{and_from}
+use Rattle.ddf_lemmas.proofs.Lists.{found_passes}
 use Rattle.ddf_config.specs.declared.member.Member.{Member}
 use Rattle.ddf_config.specs.declared.element.Position.{Position}
 use Rattle.ddf_config.specs.declared.extent.Extent.{Extent}
@@ -18,19 +20,7 @@ use Rattle.ddf_plan.specs.Create.{element_strip, laid_position, laid_element, li
 use Rattle.ddf_plan.specs.CreateRefusal.{no_extent}
 use Rattle.ddf_plan.specs.Floors.{extent_refusal, lacks_extent}
 
-both : (a b : Bool) → a ≡ true → b ≡ true → (a && b) ≡ true
-both a b p q = ap (λ x. x && b) p ∙ q
-
--- what a search finds passes
-pub found_passes : {X : Type 0} (p : X → Bool) (xs : List X) (x : X) → find p xs ≡ Some x → p x ≡ true
-found_passes p [] x e = absurd (cc)
-found_passes {X} p (y ∷ ys) x e = by (p y) refl (found_passes p ys x) e
-  where
-    by : (b : Bool) → p y ≡ b → (find p ys ≡ Some x → p x ≡ true) → cond b (Some y) (find p ys) ≡ Some x → p x ≡ true
-    by true at rest h = let same : y ≡ x = cc in subst (λ (z : X). p z ≡ true) same at
-    by false at rest h = rest h
-
-least_is_free : (taken : List (ℕ × ℕ)) (size strip blocks start : ℕ) → least_start_of taken size strip blocks ≡ Some start → is_free taken size blocks start ≡ true
+pub least_is_free : (taken : List (ℕ × ℕ)) (size strip blocks start : ℕ) → least_start_of taken size strip blocks ≡ Some start → is_free taken size blocks start ≡ true
 unfolding least_start_of
 least_is_free taken size strip blocks start e = found_passes (is_free taken size blocks) (multiples strip size) start e
 
@@ -65,7 +55,7 @@ module _ (config : Configuration) (floors : List Seat) (strip blocks : ℕ) wher
       by : (b : Bool) → lacks_extent config floors strip blocks position ≡ b → (find (lacks_extent config floors strip blocks) positions ≡ None → list_all (lies_clear config.members (extents config.arrays)) (map (extent blocks) (map (laid_position config.members (extents config.arrays) strip blocks) positions)) ≡ true) → cond b (Some position) (find (lacks_extent config floors strip blocks) positions) ≡ None → list_all (lies_clear config.members (extents config.arrays)) (map (extent blocks) (map (laid_position config.members (extents config.arrays) strip blocks) (position ∷ positions))) ≡ true
       by true at rest h = absurd (cc)
       by false at rest h =
-          both _ _ (position_is_clear config.members (extents config.arrays) strip blocks position (has_start position at)) (rest h)
+          and_from _ _ (position_is_clear config.members (extents config.arrays) strip blocks position (has_start position at)) (rest h)
 
 module _ (config : Configuration) (floors seats : List Seat) (elements : ℕ) where
   part_is_clear : (part : Option ElementValue) → extent_refusal config floors seats elements part ≡ None → list_all (lies_clear config.members (extents config.arrays)) (part_extents (option_map (laid_element config.members (extents config.arrays) elements) part)) ≡ true
@@ -87,5 +77,5 @@ module _ (config : Configuration) (floors seats : List Seat) (elements : ℕ) wh
           list_all-append (lies_clear config.members (extents config.arrays))
           (part_extents (option_map (laid_element config.members (extents config.arrays) elements) part))
           (flat_map part_extents (map (option_map (laid_element config.members (extents config.arrays) elements)) parts))
-          ∙ both _ _ (part_is_clear part at) (rest h)
+          ∙ and_from _ _ (part_is_clear part at) (rest h)
       by (Some refusal) at rest h = absurd (cc)

@@ -1,6 +1,7 @@
 -- What a change keeps of members, whichever it is.
-use Rattle.std.proofs.Common.{◌≡◌, ℕ, Bool, true, false, not, ◌||◌, List, [], ◌∷◌, Some, None, nat_eq, cond, refl, ap}
+use Rattle.std.proofs.Common.{◌≡◌, ℕ, Bool, true, false, not, List, [], ◌∷◌, Some, None, nat_eq, cond, refl, ap}
 use Rattle.std.specs.Map.{lookup, keys_of}
+use Rattle.ddf_lemmas.proofs.Tests.{or_second}
 use Rattle.ddf_config.specs.declared.member.Member.{Member}
 use Rattle.ddf_config.specs.Configuration.{Configuration}
 use Rattle.ddf_config.specs.Entries.{changed_entries}
@@ -26,13 +27,9 @@ module _ (g : ℕ → Member → Member) where
       by true rest at = here (g e.0 e.1).missing e.1.missing (stays e.0 e.1) at
       by false rest at = rest at
 
-neither : (a b : Bool) → (a || b) ≡ false → b ≡ false
-neither true b h = absurd (cc)
-neither false b h = h
-
 -- a member that isn't missing after a change wasn't before it
 pub missing_stays : (config : Configuration) (change : Change) (k : ℕ) (m : Member) → (member_after config change k m).missing ≡ false → m.missing ≡ false
-missing_stays config change k m h = neither (is_among (lost_by change) k) m.missing h
+missing_stays config change k m h = or_second (is_among (lost_by change) k) m.missing h
 
 pub members_keys : (config : Configuration) (change : Change) → keys_of (members_after config change) ≡ keys_of config.members
 members_keys config change = keys_kept (member_after config change) config.members

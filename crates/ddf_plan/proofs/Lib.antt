@@ -2,5 +2,4 @@ pub mod Afters
 pub mod Kept
 pub mod Clear
 pub mod Made
-pub mod Zips
 pub mod Lists

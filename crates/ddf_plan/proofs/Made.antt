@@ -5,6 +5,7 @@ use Rattle.std.specs.List.{list_all, flat_map}
 use Rattle.std.proofs.lemmas.Bool.{cond-true}
 use Rattle.std.proofs.lemmas.Cmp.{nat_list_eq_equiv}
 use Rattle.std.proofs.lemmas.List.{map-append}
+use Rattle.ddf_lemmas.proofs.Tests.{or_second}
 use Rattle.ddf_config.specs.declared.member.Member.{Member}
 use Rattle.ddf_config.specs.declared.element.Position.{Position}
 use Rattle.ddf_config.specs.declared.array.Array.{Array}
@@ -44,11 +45,7 @@ found_last {K} {X} g test (e ∷ es) k x none here = by (test e.0) (λ rest. fou
     by true rest h = absurd (cc)
     by false rest h = rest h
 
-or_right : (a b : Bool) → (a || b) ≡ false → b ≡ false
-or_right true b h = absurd (cc)
-or_right false b h = h
-
-not_refused : (holds : Bool) (refusal : Refusal) → refuse_if holds refusal ≡ None → holds ≡ false
+pub not_refused : (holds : Bool) (refusal : Refusal) → refuse_if holds refusal ≡ None → holds ≡ false
 not_refused true refusal h = absurd (cc)
 not_refused false refusal h = refl
 
@@ -112,7 +109,7 @@ module _ (config next : Configuration) (guid : List ℕ) (array made : Array) (s
   made_names_none_twice =
       ap (λ (a : Array). names_twice (references a)) is_created
       ∙ ap names_twice (references_kept config.members (extents config.arrays) (length array.elements) array.elements)
-      ∙ or_right (not (has_shapes array) || not (has_tiers array)) (names_twice (references array))
+      ∙ or_second (not (has_shapes array) || not (has_tiers array)) (names_twice (references array))
       (not_refused (is_no_shape array) Shape
       (all_pass
       (not_current config seats (references array)

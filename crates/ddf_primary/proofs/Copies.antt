@@ -4,6 +4,7 @@ use Rattle.std.specs.Prelude.{filter_map, nat_lt, option_map, ◌==◌, if◌the
 use Rattle.std.specs.List.{range_with_len, cons_option}
 use Rattle.std.proofs.lemmas.Bool.{cases_eq, cases_lt, eq-eqb, eqb-true, lt-ltb, ltb-true}
 use Rattle.std.proofs.lemmas.Option.{none-some, same_Some, some_pair_parts}
+use Rattle.ddf_lemmas.proofs.Tests.{true_not_false}
 use Rattle.ddf_mirror1e.specs.Mirror.{mirror}
 use Rattle.ddf_mirror1e.specs.Copies.{first, second}
 use Rattle.ddf_primary.specs.declared.layout.Layout.{Layout}
@@ -17,9 +18,6 @@ use Rattle.ddf_primary.proofs.CellFacts.{CellFacts}
 use Rattle.ddf_primary.proofs.ShapeFacts.{cell_facts}
 use Rattle.ddf_primary.proofs.Needs.{no_twin, not_every, not_two, two_alone, two_is}
 use Rattle.ddf_primary.proofs.MirrorLayouts.{are_twins, mirror_length, mirror_place, mirror_read, mirror_twin, same_cell, twin_along, twin_holds}
-
-true_not_false : true ≡ false → ⊥
-true_not_false e = cc
 
 -- ---- what a function picks of a range
 

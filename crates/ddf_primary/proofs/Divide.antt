@@ -1,7 +1,8 @@
 -- Bounds of the places that dividing gives.
-use Rattle.std.proofs.Common.{◌≡◌, ◌∙◌, ℕ, zero, suc, ◌+◌, ◌-◌, ◌*◌, ◌/◌, ◌%◌, ◌^◌, ◌<◌, ◌≤◌, ap, arith}
+use Rattle.std.proofs.Common.{◌≡◌, ◌∙◌, ℕ, ◌+◌, ◌-◌, ◌*◌, ◌/◌, ◌%◌, ◌^◌, ◌<◌, ◌≤◌, ap, arith}
 use Rattle.std.proofs.lemmas.Nat.{mul-add-lt, div-add-mod', div-mul-add, mul-le, mod_below, div_below}
 use Rattle.std.proofs.Math.Nat.{div-le_self}
+use Rattle.ddf_lemmas.proofs.Tests.{factor_pos}
 
 -- the sector of a block is no greater than the block
 pub sector_le : (block strip columns : ℕ) → 1 ≤ columns → block / strip / columns * strip + block % strip ≤ block
@@ -19,16 +20,6 @@ block_lt number sector strip columns some within =
 pub small_block : (columns sector strip : ℕ) → columns < 2 ^ 16 → sector < 2 ^ 48 → strip ≤ 2 ^ 31 → columns * (sector + strip) < 2 ^ 64
 small_block columns sector strip few near small =
     omega (arith, mul-le columns (sector + strip) (2 ^ 16 - 1) (2 ^ 48 + 2 ^ 31) (omega arith) (omega arith))
-
-pub factor_pos : (a b n : ℕ) → n < a * b → 0 < b
-factor_pos a zero n below = absurd (omega arith)
-factor_pos a (suc b) n below = omega arith
-
--- a block is its row, its strip's number in the row and its sector in the strip
-pub place_splits : (block strip columns : ℕ) → block ≡ (block / strip / columns * columns + block / strip % columns) * strip + block % strip
-place_splits block strip columns =
-    let count = div-add-mod' (block / strip) columns in
-    rw count (omega (arith, div-add-mod' block strip))
 
 pub offset_within : (block strip columns rows : ℕ) → block < rows * (columns * strip) → block % strip < strip
 offset_within block strip columns rows below =

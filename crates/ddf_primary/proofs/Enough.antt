@@ -1,7 +1,7 @@
 -- Which members RAID 1E needs: those on which its blocks are.
-use Rattle.std.proofs.Common.{◌≡◌, ◌⊎◌, ◌∙◌, ◌↔◌, ℕ, zero, suc, ◌+◌, ◌*◌, ◌/◌, ◌<◌, ◌≤◌, Bool, true, false, not, ◌&&◌, ◌||◌, List, [], ◌∷◌, Some, None, slice_get, length, map, get_or, inl, inr, ⊎_elim, refl, sym, ap, arith}
+use Rattle.std.proofs.Common.{◌≡◌, ◌⊎◌, ◌∙◌, ◌↔◌, ℕ, zero, suc, ◌+◌, ◌*◌, ◌/◌, ◌<◌, ◌≤◌, Bool, true, false, not, ◌||◌, List, [], ◌∷◌, Some, None, slice_get, length, map, get_or, inl, inr, ⊎_elim, refl, sym, ap, arith}
 use Rattle.std.specs.List.{list_all, range_with_len}
-use Rattle.std.proofs.lemmas.Bool.{and_parts, cases_lt}
+use Rattle.std.proofs.lemmas.Bool.{and_parts, cases_lt, and_from, or_cases, or_left, or_right}
 use Rattle.ddf_mirror1e.specs.declared.spread.Spread.{Spread}
 use Rattle.ddf_mirror1e.specs.Mirror.{Mirror as Twofold, mirror}
 use Rattle.ddf_mirror1e.specs.Copies.{begins_pairs, capacity, data_strips, first, first_strip, following, second}
@@ -19,13 +19,10 @@ use Rattle.ddf_primary.proofs.MirrorLayouts.{is_mirror, mirror_holds, mirror_len
 
 -- ---- tests over a range
 
-and_true : (a b : Bool) → a ≡ true → b ≡ true → (a && b) ≡ true
-and_true a b x y = ap (λ c. c && b) x ∙ y
-
 pub all_range : (f : ℕ → Bool) (first count : ℕ) → ((n : ℕ) → first ≤ n → n < first + count → f n ≡ true) → list_all f (range_with_len first count) ≡ true
 all_range f first zero all = refl
 all_range f first (suc count) all =
-    and_true (f first) (list_all f (range_with_len (first + 1) count)) (all first (omega arith) (omega arith))
+    and_from (f first) (list_all f (range_with_len (first + 1) count)) (all first (omega arith) (omega arith))
     (all_range f (first + 1) count (λ n from below. all n (omega (arith, from)) (omega (arith, below))))
 
 pub range_all : (f : ℕ → Bool) (first count n : ℕ) → list_all f (range_with_len first count) ≡ true → first ≤ n → n < first + count → f n ≡ true
@@ -50,19 +47,8 @@ there_none p [] n none = refl
 there_none p (y ∷ xs) zero none = absurd (cc)
 there_none p (y ∷ xs) (suc n) none = there_none p xs n none
 
-either : (a b : Bool) → (a || b) ≡ true → (a ≡ true) ⊎ (b ≡ true)
-either true b e = inl refl
-either false b e = inr e
-
-or_right : (a b : Bool) → b ≡ true → (a || b) ≡ true
-or_right true b e = refl
-or_right false b e = e
-
-or_left : (a b : Bool) → a ≡ true → (a || b) ≡ true
-or_left a b e = ap (λ c. c || b) e
-
 needed : (begins one other : Bool) → begins ≡ true → (not begins || (one || other)) ≡ true → (one ≡ true) ⊎ (other ≡ true)
-needed begins one other is e = either one other (ap (λ c. not c || (one || other)) (sym is) ∙ e)
+needed begins one other is e = or_cases one other (ap (λ c. not c || (one || other)) (sym is) ∙ e)
 
 unless : (begins one other : Bool) → (begins ≡ true → (one || other) ≡ true) → (not begins || (one || other)) ≡ true
 unless true one other has = has refl

@@ -1,24 +1,10 @@
 -- Items of joined lists, read by `slice_get`.
 use Rattle.std.proofs.Common.{◌≡◌, ℕ, zero, suc, ◌+◌, ◌-◌, ◌*◌, ◌<◌, ◌≤◌, List, [], ◌∷◌, ◌++◌, length, Some, slice_get, ◌⊎◌, inl, inr, ⊎_elim, refl, sym, ap, ◌∙◌, arith, length-append}
 use Rattle.std.specs.List.{range_with_len, flat_map}
-use Rattle.std.proofs.lemmas.Option.{slice_get-get_or, slice_get_within, same_Some}
+use Rattle.std.proofs.lemmas.Option.{slice_get_within, same_Some}
 use Rattle.std.proofs.lemmas.Bool.{cases_lt}
-use Rattle.std.proofs.lemmas.List.FromFn.{length-range_with_len, get_or-range_with_len}
-
-pub slice_get-range : (a n i : ℕ) → i < n → slice_get (range_with_len a n) i ≡ Some (a + i)
-slice_get-range a n i below =
-    let within : i < length (range_with_len a n) = rw length-range_with_len below in
-    slice_get-get_or (range_with_len a n) i 0 within ∙ ap Some (get_or-range_with_len a n i 0 below)
-
-pub slice_get-append_left : {X : Type 0} (xs ys : List X) (i : ℕ) → i < length xs → slice_get (xs ++ ys) i ≡ slice_get xs i
-slice_get-append_left [] ys i below = absurd (omega arith)
-slice_get-append_left (x ∷ xs) ys zero below = refl
-slice_get-append_left (x ∷ xs) ys (suc i) below = slice_get-append_left xs ys i (omega arith)
-
-pub slice_get-append_right : {X : Type 0} (xs ys : List X) (i : ℕ) → slice_get (xs ++ ys) (length xs + i) ≡ slice_get ys i
-slice_get-append_right [] ys i = let e : 0 + i ≡ i = omega arith in rw e refl
-slice_get-append_right (x ∷ xs) ys i =
-    let e : suc (length xs) + i ≡ suc (length xs + i) = omega arith in rw e (slice_get-append_right xs ys i)
+use Rattle.std.proofs.lemmas.List.FromFn.{length-range_with_len}
+use Rattle.ddf_lemmas.proofs.Lists.{slice_get-append_left, slice_get-append_right, slice_get-range}
 
 -- pieces of one length, joined end to end
 module _ {X A : Type 0} (f : X → List A) (len : ℕ) (even : (x : X) → length (f x) ≡ len) where

@@ -3,18 +3,19 @@ use borrow.Author.Tests.{leb-true}
 use Rattle.std.proofs.Common.{◌≡◌, ◌≢◌, ◌∙◌, ℕ, ◌+◌, ◌-◌, ◌*◌, ◌/◌, ◌%◌, ◌^◌, ◌<◌, ◌≤◌, List, Option, Some, slice_get, length, inl, inr, ⊎_elim, refl, sym, ap, subst, zero-add, arith}
 use Rattle.std.specs.Prelude.{nat_le, option_map, ◌==◌}
 use Rattle.std.specs.List.{range_with_len}
-use Rattle.std.proofs.lemmas.Bool.{and_parts}
+use Rattle.std.proofs.lemmas.Bool.{and_parts, cases_Bool}
 use Rattle.std.proofs.lemmas.List.{length-map}
 use Rattle.std.proofs.lemmas.List.FromFn.{length-range_with_len}
 use Rattle.std.proofs.lemmas.Nat.{div-mul-add, div_below, le-div, mod_below, mul-add-lt, mul-le}
 use Rattle.std.proofs.lemmas.Option.{slice_get-map, slice_get_within, some_pair_parts, none-some}
 use Rattle.std.proofs.Math.Nat.{div-mul-le_self, div-div-eq-div-mul}
+use Rattle.ddf_lemmas.proofs.Lists.{slice_get-range}
 use Rattle.ddf_mirror1e.specs.declared.spread.Spread.{Spread}
 use Rattle.ddf_mirror1e.specs.declared.spread.Spread.TheVariants.{Adjacent, Offset}
 use Rattle.ddf_mirror1e.specs.Mirror.{mirror}
 use Rattle.ddf_mirror1e.specs.Codes.{IsMirror}
 use Rattle.ddf_mirror1e.specs.Copies.{capacity, data_strips_by, first, first_strip, second, second_strip, strip_at, Holds as HoldsCopy}
-use Rattle.ddf_mirror1e.proofs.Strips.{first_below, second_below, first_pair, second_pair, first_within, follows, never_itself, bool_cases}
+use Rattle.ddf_mirror1e.proofs.Strips.{first_below, second_below, first_pair, second_pair, first_within, follows, never_itself}
 use Rattle.ddf_mirror1e.proofs.Places.{apart as copies_apart, member_within as copy_within, capacity_bound, found_holds, in_rows, offset_within, some_members, strip_within}
 use Rattle.ddf_primary.specs.declared.layout.Layout.{Layout}
 use Rattle.ddf_primary.specs.declared.layout.Layout.TheVariants.{Raid0, Raid1, Parity, Jbod, Concatenation, Mirror}
@@ -23,7 +24,6 @@ use Rattle.ddf_primary.specs.Levels.{IsShape}
 use Rattle.ddf_primary.specs.Needs.{is_on_two}
 use Rattle.ddf_primary.specs.Cells.{cells, depth_of, first_cells, height_of, Holds, rows_used, twin_by, twin_of}
 use Rattle.ddf_primary.proofs.Needs.{two_is, twins_on_two}
-use Rattle.ddf_primary.proofs.Lists.{slice_get-range}
 use Rattle.ddf_primary.proofs.Divide.{same_row, later_place}
 use Rattle.ddf_primary.proofs.CellFacts.{CellFacts, Holds-from, Holds-read}
 
@@ -57,7 +57,7 @@ filled Offset members rows member row within below even =
     let upper_below : row / 2 * members + member < rows / 2 * members = omega (arith, mul-add-lt (row / 2) members member (rows / 2) pair within) in
     let lower_below : row / 2 * members + before < rows / 2 * members =
     omega (arith, mul-add-lt (row / 2) members before (rows / 2) pair (mod_below (member + (members - 1)) members (omega (arith, within)))) in
-    ⊎_elim (λ upper. rw upper upper_below) (λ lower. rw lower lower_below) (bool_cases (row % 2 == 0))
+    ⊎_elim (λ upper. rw upper upper_below) (λ lower. rw lower lower_below) (cases_Bool (row % 2 == 0))
 
 sector_used : (spread : Spread) (members strip blocks member sector block : ℕ) → IsMirror (mirror spread members strip blocks)
     → HoldsCopy (mirror spread members strip blocks) member sector block → sector < rows_used spread (blocks / strip) * strip

@@ -1,14 +1,14 @@
 -- The cells of the layouts with rows: RAID 0, and RAID 4 and 5.
-use Rattle.std.proofs.Common.{◌≡◌, ℕ, ◌+◌, ◌-◌, ◌*◌, ◌/◌, ◌%◌, ◌<◌, ◌≤◌, ◌↔◌, inl, inr, ⊎_elim, length, Some, slice_get, refl, sym, ap, ◌∙◌, zero-add, arith}
+use Rattle.std.proofs.Common.{◌≡◌, ℕ, ◌+◌, ◌-◌, ◌*◌, ◌/◌, ◌%◌, ◌<◌, ◌≤◌, ◌↔◌, inl, inr, ⊎_elim, length, Some, slice_get, refl, sym, ap, ◌∙◌, arith}
 use Rattle.std.specs.List.{range_with_len}
 use Rattle.std.proofs.lemmas.Bool.{cases_eq}
 use Rattle.std.proofs.lemmas.List.FromFn.{length-range_with_len}
 use Rattle.std.proofs.lemmas.Option.{slice_get_within, same_Some, none-some}
+use Rattle.ddf_lemmas.proofs.Lists.{range_at, slice_get-range}
 use Rattle.ddf_primary.specs.declared.layout.Layout.TheVariants.{Raid0, Parity}
 use Rattle.ddf_primary.specs.declared.parity.ParityLayout.{ParityLayout}
 use Rattle.ddf_primary.specs.Placement.{Placement}
 use Rattle.ddf_primary.specs.Cells.{cells, striped_cells, every_member, members_around, parity_on, depth_of, Holds}
-use Rattle.ddf_primary.proofs.Lists.{slice_get-range}
 use Rattle.ddf_primary.proofs.Divide.{number_within}
 use Rattle.ddf_primary.proofs.Around.{PlaceAround, length-data_around, around, around_apart, around_placed, parity_on_within}
 use Rattle.ddf_primary.proofs.Striped.{length-striped, striped_place, striped_block, striped_inverse, striped_apart, striped_within}
@@ -19,9 +19,6 @@ in_all : (members i member : ℕ) → slice_get (range_with_len 0 members) i ≡
 in_all members i member at =
     let below : i < members = omega (arith, slice_get_within (range_with_len 0 members) i member at, length-range_with_len 0 members) in
     omega (arith, same_Some (0 + i) member (sym (slice_get-range 0 members i below) ∙ at))
-
-all_at : (members i : ℕ) → i < members → slice_get (range_with_len 0 members) i ≡ Some i
-all_at members i below = slice_get-range 0 members i below ∙ ap Some (zero-add i)
 
 length-every_member : (members row : ℕ) → length (every_member members row) ≡ members
 length-every_member members row = length-range_with_len 0 members
@@ -44,13 +41,13 @@ module _ (shape : Placement) (is : shape.layout ≡ Raid0) where
       let inside : block < shape.blocks / shape.strip * (shape.members * shape.strip) = omega (arith, raid_0_length) in
       rw raid_0_cells
       (striped_place (every_member shape.members) shape.members (length-every_member shape.members) shape.strip (shape.blocks / shape.strip) block (block / shape.strip % shape.members) inside
-      (all_at shape.members (block / shape.strip % shape.members) (number_within block shape.strip shape.members (shape.blocks / shape.strip) inside)))
+      (range_at shape.members (block / shape.strip % shape.members) (number_within block shape.strip shape.members (shape.blocks / shape.strip) inside)))
 
   pub raid_0_block : (member sector block : ℕ) → member < shape.members → sector < depth_of shape → (block ≡ (sector / shape.strip * shape.members + member) * shape.strip + sector % shape.strip) ↔ Holds shape member sector block
   raid_0_block member sector block known near =
       rw (raid_0_cells, is)
       (striped_block (every_member shape.members) shape.members (length-every_member shape.members) shape.strip (shape.blocks / shape.strip) member sector member block
-      (all_at shape.members member known) (λ i at. in_all shape.members i member at) (rw is at near))
+      (range_at shape.members member known) (λ i at. in_all shape.members i member at) (rw is at near))
 
   pub raid_0_facts : CellFacts shape
   raid_0_facts =

@@ -1,8 +1,9 @@
 -- The facts of every shape's cells, whatever its layout.
 use Rattle.std.proofs.Common.{◌≡◌, ℕ, ◌+◌, ◌-◌, ◌*◌, ◌/◌, ◌%◌, ◌≤◌, ◌<◌, ◌↔◌, ◌⊎◌, ⊎_elim, IsTrue, false, Option, None, Some, slice_get, length, refl, sym, ap, subst, ◌∙◌, arith, rules, tests}
 use Rattle.std.proofs.lemmas.Nat.{mul-le}
-use Rattle.std.proofs.lemmas.Option.{none-some, same_Some}
+use Rattle.std.proofs.lemmas.Option.{none-some}
 use Rattle.std.proofs.Math.Nat.{div-mul-le_self}
+use Rattle.ddf_lemmas.proofs.Options.{some_block}
 use Rattle.ddf_mirror1e.specs.declared.spread.Spread.{Spread}
 use Rattle.ddf_mirror1e.specs.declared.spread.Spread.TheVariants.{Adjacent, Offset}
 use Rattle.ddf_primary.specs.declared.layout.Layout.{Layout}
@@ -138,10 +139,6 @@ none_on_parity shape parity member sector is sound on block =
           (facts.no_parity member sector block holds
           (subst (λ (l : Layout). parity_by l shape.members (sector / shape.strip) ≡ Some member) (sym is) (ap Some (sym on)))),
     )
-
--- an answer that is the block of a cell
-pub some_block : (answer block : ℕ) {P : Type 0} → (block ≡ answer) ↔ P → (◌≡◌ {A = Option ℕ} (Some answer) (Some block)) ↔ P
-some_block answer block both = (λ e. both.0 (sym (same_Some answer block e)), λ p. ap Some (sym (both.1 p)))
 
 pub raid_0_answer : (shape : Placement) (member sector : ℕ) → shape.layout ≡ Raid0 → member < shape.members → sector < depth_of shape → (block : ℕ) → (◌≡◌ {A = Option ℕ} (Some ((sector / shape.strip * columns_by shape.layout shape.members + member) * shape.strip + sector % shape.strip)) (Some block)) ↔ Holds shape member sector block
 raid_0_answer shape member sector is known near block =

@@ -6,9 +6,11 @@ use Rattle.std.proofs.lemmas.List.{length-map}
 use Rattle.std.proofs.lemmas.List.FromFn.{length-range_with_len}
 use Rattle.std.proofs.lemmas.Nat.{mul-add-lt, div-mul-add, mod-mul-add, div-add-mod', div_below, mod_below}
 use Rattle.std.proofs.lemmas.Option.{slice_get-map, slice_get_within, slice_get-get_or, some_pair_parts}
+use Rattle.ddf_lemmas.proofs.Lists.{slice_get-range}
+use Rattle.ddf_lemmas.proofs.Tests.{factor_pos, place_in_strips}
 use Rattle.ddf_primary.specs.Cells.{sectors, strip_cells, row_cells, striped_cells}
-use Rattle.ddf_primary.proofs.Lists.{slice_get-range, length-pieces, slice_get-pieces}
-use Rattle.ddf_primary.proofs.Divide.{factor_pos, place_splits, offset_within, number_within, row_within}
+use Rattle.ddf_primary.proofs.Lists.{length-pieces, slice_get-pieces}
+use Rattle.ddf_primary.proofs.Divide.{offset_within, number_within, row_within}
 
 pub length-sectors : (first count member : ℕ) → length (sectors first count member) ≡ count
 length-sectors first count member =
@@ -45,7 +47,7 @@ module _ (data_members : ℕ → List ℕ) (columns : ℕ) (even : (row : ℕ) �
 
   pub striped_place : (strip rows block member : ℕ) → block < rows * (columns * strip) → slice_get (data_members (block / strip / columns)) (block / strip % columns) ≡ Some member → slice_get (striped_cells data_members strip rows) block ≡ Some (member, block / strip / columns * strip + block % strip)
   striped_place strip rows block member below at =
-      ap (slice_get (striped_cells data_members strip rows)) (place_splits block strip columns)
+      ap (slice_get (striped_cells data_members strip rows)) (place_in_strips block strip columns)
       ∙ striped_at strip rows (block / strip / columns) (block / strip % columns) (block % strip) member at
       (offset_within block strip columns rows below) (row_within block strip columns rows below)
 
@@ -72,7 +74,7 @@ module _ (data_members : ℕ → List ℕ) (columns : ℕ) (even : (row : ℕ) �
         some = omega arith;
         within = rw row_is (row_within block strip columns rows below);
         number_at = rw row_is (read ∙ ap Some parts.0);
-        block_is = rw (row_is, offset_is) (place_splits block strip columns);
+        block_is = rw (row_is, offset_is) (place_in_strips block strip columns);
       }
 
   -- the one block of a cell whose strip has this number

@@ -4,11 +4,12 @@ use Rattle.std.specs.List.{range_with_len, flat_map}
 use Rattle.std.proofs.lemmas.List.FromFn.{length-range_with_len}
 use Rattle.std.proofs.lemmas.Nat.{div-add-mod', div_below, mod_below}
 use Rattle.std.proofs.lemmas.Option.{slice_get_within, some_pair_parts, none-some}
+use Rattle.ddf_lemmas.proofs.Lists.{slice_get-range}
+use Rattle.ddf_lemmas.proofs.Tests.{factor_pos}
 use Rattle.ddf_primary.specs.declared.layout.Layout.TheVariants.{Raid1, Jbod, Concatenation}
 use Rattle.ddf_primary.specs.Placement.{Placement}
 use Rattle.ddf_primary.specs.Cells.{cells, member_cells, depth_of, Holds}
-use Rattle.ddf_primary.proofs.Lists.{slice_get-range, length-pieces, slice_get-pieces}
-use Rattle.ddf_primary.proofs.Divide.{factor_pos}
+use Rattle.ddf_primary.proofs.Lists.{length-pieces, slice_get-pieces}
 use Rattle.ddf_primary.proofs.Striped.{length-sectors, slice_get-sectors}
 use Rattle.ddf_primary.proofs.CellFacts.{CellFacts, Holds-from, Holds-read}
 

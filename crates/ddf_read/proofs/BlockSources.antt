@@ -63,7 +63,7 @@ has_first v block site first e = some_copies v block (trusts_parity v) site firs
 
 -- ---- kind by kind
 
-flat-same : {X : Type 0} (f g : ℕ → List X) → ((x : ℕ) → f x ≡ g x) → (xs : List ℕ) → flat_map f xs ≡ flat_map g xs
+pub flat-same : {X : Type 0} (f g : ℕ → List X) → ((x : ℕ) → f x ≡ g x) → (xs : List ℕ) → flat_map f xs ≡ flat_map g xs
 flat-same f g e [] = refl
 flat-same f g e (x ∷ xs) = ap (λ l. l ++ flat_map f xs) (e x) ∙ ap (λ l. g x ++ l) (flat-same f g e xs)
 

@@ -20,3 +20,4 @@ pub mod Followers
 pub mod MissingCells
 pub mod WithoutCopies
 pub mod Narrower
+pub mod Common

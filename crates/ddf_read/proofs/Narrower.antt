@@ -2,16 +2,17 @@
 use Rattle.std.proofs.Common.{◌≡◌, ◌∙◌, ℕ, ◌+◌, ◌≤◌, Bool, true, false, Some, None, refl, sym, ap, arith}
 use Rattle.std.specs.Prelude.{nat_lt, not, ◌&&◌, if◌then◌else◌}
 use Rattle.std.specs.List.{range_with_len, list_any}
-use Rattle.std.proofs.lemmas.Bool.{le-ltb, ltb-false}
+use Rattle.std.proofs.lemmas.Bool.{le-ltb, ltb-false, false_from_ne_true}
+use Rattle.ddf_lemmas.proofs.Tests.{true_not_false}
 use Rattle.ddf_array.specs.Volume.{Volume, capacity}
 use Rattle.ddf_array.specs.Within.{is_within}
 use Rattle.ddf_read.specs.declared.fault.VolumeFault.{VolumeFault}
 use Rattle.ddf_read.specs.declared.fault.VolumeFault.TheVariants.{Range, Lost, Unsure}
 use Rattle.ddf_read.specs.Refused.{lacks_copy, is_unsure, read_refusal}
 use Rattle.ddf_read.proofs.Lacking.{any_hit, any_none}
-use Rattle.ddf_read.proofs.Sourced.{never_true, none_by, true_false}
+use Rattle.ddf_read.proofs.Common.{none_by}
 
-none_of : (a b c : Bool) (x y z : VolumeFault) → a ≡ false → b ≡ true → c ≡ false → (if a then Some x else (if not b then Some y else (if c then Some z else None))) ≡ None
+pub none_of : (a b c : Bool) (x y z : VolumeFault) → a ≡ false → b ≡ true → c ≡ false → (if a then Some x else (if not b then Some y else (if c then Some z else None))) ≡ None
 none_of true b c x y z past within unsure = absurd (cc)
 none_of false false c x y z past within unsure = absurd (cc)
 none_of false true true x y z past within unsure = absurd (cc)
@@ -21,7 +22,7 @@ none_of false true false x y z past within unsure = refl
 none_in : (p : ℕ → Bool) (start count at size : ℕ) → at + size ≤ count → list_any p (range_with_len start count) ≡ false → list_any p (range_with_len (start + at) size) ≡ false
 none_in p start count at size inside none = any_none p (start + at) size (λ k below.
     let same : start + at + k ≡ start + (at + k) = omega arith in
-    ap p same ∙ never_true (p (start + (at + k))) (λ here. true_false (sym (any_hit p start count (at + k) (omega (arith, inside, below)) here) ∙ none)))
+    ap p same ∙ false_from_ne_true (p (start + (at + k))) (λ here. true_not_false (sym (any_hit p start count (at + k) (omega (arith, inside, below)) here) ∙ none)))
 
 both : (marked : Bool) (whole part : Bool) → (whole ≡ false → part ≡ false) → (marked && whole) ≡ false → (marked && part) ≡ false
 both true whole part less e = less e

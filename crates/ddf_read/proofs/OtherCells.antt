@@ -4,6 +4,7 @@ use Rattle.std.specs.Prelude.{map, option_to_list, option_map, is_some, ◌==◌
 use Rattle.std.specs.List.{range_with_len, flat_map}
 use Rattle.std.specs.Simd.Lanes.{fold_l}
 use Rattle.std.proofs.lemmas.List.{map-append}
+use Rattle.ddf_lemmas.proofs.Lists.{fold-append}
 use Rattle.ddf_parity.specs.Xor.{xor, xor_all, zeros}
 use Rattle.ddf_bay.specs.Sectors.{Image}
 use Rattle.ddf_array.specs.declared.place.Place.{Place}
@@ -17,6 +18,7 @@ use Rattle.ddf_read.specs.Along.{further}
 use Rattle.ddf_read.specs.Sums.{other_site, other_sites, AreSums, AreAdded}
 use Rattle.ddf_read.specs.Reading.{HasSite, IsGivenBy, NoneLeft}
 use Rattle.ddf_read.proofs.Tries.{HasSite-wider}
+use Rattle.ddf_read.proofs.BlockSources.{flat-same}
 
 -- ---- the values that are there
 
@@ -44,10 +46,6 @@ somes-flat : {X : Type 0} (each : ℕ → List (Option X)) (xs : List ℕ) → s
 somes-flat each [] = refl
 somes-flat each (x ∷ xs) = somes-append (each x) (flat_map each xs) ∙ ap (λ l. somes (each x) ++ l) (somes-flat each xs)
 
-flat-same : {X : Type 0} (f g : ℕ → List X) → ((x : ℕ) → f x ≡ g x) → (xs : List ℕ) → flat_map f xs ≡ flat_map g xs
-flat-same f g e [] = refl
-flat-same f g e (x ∷ xs) = ap (λ l. l ++ flat_map f xs) (e x) ∙ ap (λ l. g x ++ l) (flat-same f g e xs)
-
 -- ---- the sectors of a row
 
 -- what a position adds
@@ -73,10 +71,6 @@ row_sites places position sector sites e =
     ∙ somes_from_all (flat_map (other_at places sector position) (range_with_len 0 (length places))) sites (sym (row_is places position sector) ∙ e)
 
 -- ---- what a read of them gives
-
-fold-append : (f : List ℕ → List ℕ → List ℕ) (a : List ℕ) (xs ys : List (List ℕ)) → fold_l f a (xs ++ ys) ≡ fold_l f (fold_l f a xs) ys
-fold-append f a [] ys = refl
-fold-append f a (x ∷ xs) ys = fold-append f (f a x) xs ys
 
 sum_more : (image : Image) (xs ys : List Site) → sum_at image (xs ++ ys) ≡ fold_l xor (sum_at image xs) (map (bytes_at image) ys)
 sum_more image xs ys = ap xor_all (map-append (bytes_at image) xs ys) ∙ fold-append xor zeros (map (bytes_at image) xs) (map (bytes_at image) ys)

@@ -1,8 +1,8 @@
 -- Reads of the blocks of a range, piece by piece.
-use Rattle.std.proofs.Common.{◌≡◌, ◌∙◌, ⊎_elim, ℕ, ◌+◌, ◌-◌, ◌<◌, ◌≤◌, List, [], ◌++◌, Some, sym, subst, arith, length, take, drop}
+use Rattle.std.proofs.Common.{◌≡◌, ◌∙◌, ⊎_elim, ℕ, ◌+◌, ◌-◌, ◌<◌, ◌≤◌, List, [], ◌++◌, Some, sym, subst, arith, length, take}
 use Rattle.std.specs.Prelude.{slice_index_or, slice_set}
 use Rattle.std.proofs.lemmas.Bool.{cases_lt}
-use Rattle.std.proofs.lemmas.List.{get_or_append_left, get_or-append_right, get_or-take, length-take-le, length-drop, get_or-set_same, get_or-set_other}
+use Rattle.std.proofs.lemmas.List.{get_or_append_left, get_or-append_right, get_or-take, length-take-le, get_or-set_same, get_or-set_other}
 use Rattle.ddf_bay.specs.State.{BayState}
 use Rattle.ddf_array.specs.Volume.{Volume}
 use Rattle.ddf_array.specs.Sources.{sources}
@@ -23,10 +23,6 @@ module _ (out piece rest : List (List ℕ)) (at : ℕ) (inside : at ≤ length o
   in_piece k from below =
       get_or-append_right (take at out) (piece ++ rest) at k [] (length-take-le at out inside) from
       ∙ get_or_append_left piece rest [] (k - at) (omega arith)
-
--- the rest of the sectors
-pub rest_long : (out : List (List ℕ)) (at : ℕ) → length (take (length out - at) (drop at out)) ≡ length out - at
-rest_long out at = length-take-le (length out - at) (drop at out) (omega (arith, length-drop at out))
 
 module _ {D : Type 0} {a b c : BayState D} (so_far : OnlyReads a b) (next : OnlyReads b c) where
   -- one piece more

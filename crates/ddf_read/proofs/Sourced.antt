@@ -1,31 +1,19 @@
 -- Where a read isn't refused, each block of the range has a source.
-use Rattle.std.proofs.Common.{◌≡◌, ◌∙◌, ℕ, ◌+◌, ◌<◌, ◌≤◌, List, [], ◌∷◌, Bool, true, false, Some, None, refl, sym, ap, arith, map, length, slice_get}
+use Rattle.std.proofs.Common.{◌≡◌, ◌∙◌, ℕ, ◌+◌, ◌<◌, ◌≤◌, List, [], ◌∷◌, Bool, true, false, None, refl, sym, ap, arith, map, length, slice_get}
 use Rattle.std.specs.Prelude.{is_none, nat_lt, not, ◌&&◌, if◌then◌else◌}
 use Rattle.std.specs.List.{range_with_len, list_any}
-use Rattle.std.proofs.lemmas.Bool.{ltb-false}
+use Rattle.std.proofs.lemmas.Bool.{ltb-false, false_from_ne_true}
+use Rattle.ddf_lemmas.proofs.Tests.{true_not_false}
 use Rattle.ddf_array.specs.declared.site.Site.{Site}
 use Rattle.ddf_array.specs.Volume.{Volume, IsVolume, capacity}
 use Rattle.ddf_array.specs.Sources.{copy, copies, every_source}
 use Rattle.ddf_array.specs.Within.{is_within}
 use Rattle.ddf_array.proofs.Enough.{has_source}
-use Rattle.ddf_read.specs.declared.fault.VolumeFault.{VolumeFault}
 use Rattle.ddf_read.specs.declared.fault.VolumeFault.TheVariants.{Range, Lost, Unsure}
 use Rattle.ddf_read.specs.Given.{HaveSources}
 use Rattle.ddf_read.specs.Refused.{lacks_copy, is_unsure, read_refusal}
 use Rattle.ddf_read.proofs.Lacking.{any_hit}
-
-pub none_by : (a b c : Bool) (x y z : VolumeFault) → (if a then Some x else (if not b then Some y else (if c then Some z else None))) ≡ None → (a ≡ false) × (b ≡ true) × (c ≡ false)
-none_by true b c x y z e = absurd (cc)
-none_by false false c x y z e = absurd (cc)
-none_by false true true x y z e = absurd (cc)
-none_by false true false x y z e = (refl, refl, refl)
-
-pub never_true : (b : Bool) → (b ≡ true → ⊥) → b ≡ false
-never_true true never = absurd (never refl)
-never_true false never = refl
-
-pub true_false : true ≡ false → ⊥
-true_false e = cc
+use Rattle.ddf_read.proofs.Common.{none_by}
 
 some_copy : (found : List Site) → is_none (slice_get found 0) ≡ false → 0 < length (map copy found)
 some_copy [] e = absurd (cc)
@@ -41,7 +29,7 @@ module _ (v : Volume) (known : IsVolume v) (start count : ℕ) (none : read_refu
   sourced : (k : ℕ) → k < count → (b : Bool) → v.marked ≡ b → 0 < length (if not b then every_source v (start + k) else map copy (copies v (start + k)))
   sourced k below true is =
       let sure : list_any (lacks_copy v) (range_with_len start count) ≡ false = ap (λ b. b && list_any (lacks_copy v) (range_with_len start count)) (sym is) ∙ parts.2 in
-      let there = never_true (lacks_copy v (start + k)) (λ lacks. true_false (sym (any_hit (lacks_copy v) start count k below lacks) ∙ sure)) in
+      let there = false_from_ne_true (lacks_copy v (start + k)) (λ lacks. true_not_false (sym (any_hit (lacks_copy v) start count k below lacks) ∙ sure)) in
       some_copy (copies v (start + k)) there
   sourced k below false is = has_source v known (start + k) (omega (arith, below_capacity)) parts.1
 

@@ -1,10 +1,11 @@
 -- The blocks of an array that are left of a strip lie side by side.
-use Rattle.std.proofs.Common.{◌≡◌, ◌∙◌, ◌⊎◌, ⊎_elim, ℕ, ◌+◌, ◌%◌, ◌<◌, ◌≤◌, Bool, true, List, [], ◌∷◌, false, Option, Some, None, length, slice_get, get_or, map, refl, sym, ap, subst, arith}
+use Rattle.std.proofs.Common.{◌≡◌, ◌∙◌, ℕ, ◌+◌, ◌%◌, ◌<◌, ◌≤◌, Bool, true, List, [], ◌∷◌, false, Option, Some, None, length, slice_get, map, refl, sym, ap, subst, arith}
 use Rattle.std.specs.Prelude.{◌==◌, ◌||◌, if◌then◌else◌}
 use Rattle.std.specs.List.{range_with_len, flat_map}
 use Rattle.std.specs.Option.{option_map}
 use Rattle.std.proofs.lemmas.Bool.{eqb-true}
-use Rattle.std.proofs.lemmas.Option.{slice_get-map, slice_get_cases, get_or_from_slice_get}
+use Rattle.std.proofs.lemmas.Option.{slice_get-map, get_or_from_slice_get}
+use Rattle.ddf_lemmas.proofs.Lists.{some_at_place}
 use Rattle.ddf_primary.specs.Cells.{cells, unit_of}
 use Rattle.ddf_primary.specs.Copies.{sector_on}
 use Rattle.ddf_secondary.specs.declared.element.ElementSize.{ElementSize}
@@ -29,19 +30,13 @@ fewer_along part block count fewer le along = record {
   in_element = omega (arith, le, along.in_element);
 }
 
-part_at : (parts : List Part) (n : ℕ) → n < length parts → (part : Part) × (slice_get parts n ≡ Some part)
-part_at parts n below = item (slice_get_cases parts n).1
-  where
-    item : ((x : Part) × (n < length parts) × (slice_get parts n ≡ Some x) × (get_or parts n x ≡ x)) ⊎ ((length parts ≤ n) × (slice_get parts n ≡ None)) → (part : Part) × (slice_get parts n ≡ Some part)
-    item cases = ⊎_elim (λ h. (h.0, h.2)) (λ h. absurd (omega (arith, h.0))) cases
-
 module _ (v : Volume) (known : IsVolume v) (block : ℕ) (spot : Spot) (there : slice_get (spots v.tiers) block ≡ Some spot) (count : ℕ) (inside : block + count ≤ capacity v) where
   -- the element of the block
   own : (part : Part) × (slice_get v.parts spot.element ≡ Some part)
   own =
       let facts = spot_facts v.tiers known.array_is in
       let within = facts.element_within spot block (facts.named spot block there) in
-      part_at v.parts spot.element (omega (arith, within, parts_count v known))
+      some_at_place v.parts spot.element (omega (arith, within, parts_count v known))
 
   size_is : (part : Part) → slice_get v.parts spot.element ≡ Some part → secondary.size_of v.tiers.sizes spot.element ≡ size_of part
   size_is part at =

@@ -44,7 +44,7 @@ none_of_five None None None None (Some x) h = absurd cc
 none_of_five None None None None None h = (refl, refl, refl)
 
 -- where none of two is there, and no third, there is none of three
-none_of_three : (a b c : Option Refusal) → first_refusal (a ∷ b ∷ []) ≡ None → c ≡ None → first_refusal (a ∷ b ∷ c ∷ []) ≡ None
+pub none_of_three : (a b c : Option Refusal) → first_refusal (a ∷ b ∷ []) ≡ None → c ≡ None → first_refusal (a ∷ b ∷ c ∷ []) ≡ None
 none_of_three (Some x) b c two one = absurd cc
 none_of_three None (Some x) c two one = absurd cc
 none_of_three None None (Some x) two one = absurd cc
@@ -52,7 +52,7 @@ none_of_three None None None two one = refl
 
 -- ---- an array that may be used
 
-within_range : (complete passes : Bool) (capacity : ℕ) → refuse_if (complete && passes) (Range capacity) ≡ None → refuse_if (not complete) Lost ≡ None → passes ≡ false
+pub within_range : (complete passes : Bool) (capacity : ℕ) → refuse_if (complete && passes) (Range capacity) ≡ None → refuse_if (not complete) Lost ≡ None → passes ≡ false
 within_range true true capacity range whole = absurd cc
 within_range true false capacity range whole = refl
 within_range false passes capacity range whole = absurd cc

@@ -3,6 +3,7 @@ use Rattle.std.proofs.Common.{◌≡◌, ◌⊎◌, inl, inr, ⊎_elim, ℕ, zer
 use Rattle.std.specs.Prelude.{if◌then◌else◌, option_map}
 use Rattle.std.specs.List.{range_with_len}
 use Rattle.std.specs.Option.{option_and_then}
+use Rattle.ddf_lemmas.proofs.Lists.{in_map}
 use Rattle.ddf_array.specs.declared.part.Part.{Part}
 use Rattle.ddf_array.specs.declared.place.Place.{Place}
 use Rattle.ddf_array.specs.declared.site.Site.{Site}
@@ -11,7 +12,7 @@ use Rattle.ddf_array.specs.Levels.{keeps_parity}
 use Rattle.ddf_array.specs.Places.{site, site_at, site_on}
 use Rattle.ddf_array.specs.Sources.{Source, all_of, at_spot, copies, copy, element_copies, element_rows, other_positions, row, row_without, rows}
 use Rattle.ddf_array.specs.Volume.{Fits, Volume}
-use Rattle.ddf_array.proofs.Consistent.{in_filter, in_flat, in_map}
+use Rattle.ddf_array.proofs.Consistent.{in_filter, in_flat}
 use Rattle.ddf_read.specs.Reading.{HasSite, HasSlot}
 use Rattle.ddf_resync.specs.Compared.{IsCompared}
 

@@ -22,12 +22,12 @@ use Rattle.ddf_read_commands.specs.Read.{HasNoPlace}
 
 -- ---- the seats of a group
 
-seats_by : (newest : List (Option Newest)) (found : Result Assembled Assembly) (group : GroupValue) → group_or_fault newest found ≡ Ok group → (slots : List ℕ) × (seats_of newest slots ≡ group.seats)
+pub seats_by : (newest : List (Option Newest)) (found : Result Assembled Assembly) (group : GroupValue) → group_or_fault newest found ≡ Ok group → (slots : List ℕ) × (seats_of newest slots ≡ group.seats)
 seats_by newest (Ok found) group e =
     let same : group_as newest found ≡ group = cc in (found.seats, ap (λ (g : GroupValue). g.seats) same)
 seats_by newest (Err fault) group e = absurd cc
 
-seats_are : (newest : List (Option Newest)) (named : Option (List ℕ)) (group : GroupValue) → group_of newest named ≡ Ok group → (slots : List ℕ) × (seats_of newest slots ≡ group.seats)
+pub seats_are : (newest : List (Option Newest)) (named : Option (List ℕ)) (group : GroupValue) → group_of newest named ≡ Ok group → (slots : List ℕ) × (seats_of newest slots ≡ group.seats)
 unfolding group_of
 seats_are newest named group e = seats_by newest (assembled (map shown_of newest) named) group e
 

@@ -6,3 +6,4 @@ mod Printing
 mod ReadEnds
 mod ComparedSlots
 pub mod Scrubbed
+pub mod Common

@@ -1,6 +1,6 @@
 -- Blocks that are read and printed piece by piece.
-use Rattle.std.proofs.Common.{◌≡◌, ◌∙◌, inl, inr, ℕ, ◌+◌, ◌-◌, ◌<◌, List, [], ◌∷◌, ◌++◌, length, take, min, sym, ap, subst, refl, arith, length-append}
-use Rattle.std.proofs.lemmas.List.{append-nil}
+use Rattle.std.proofs.Common.{◌≡◌, ◌∙◌, inl, inr, ℕ, ◌+◌, ◌-◌, ◌<◌, List, ◌++◌, length, take, min, sym, ap, subst, refl, arith, length-append}
+use Rattle.std.proofs.lemmas.List.{append-nil, nil_from_length}
 use Rattle.std.proofs.Math.Seq.{take-append-add}
 use Rattle.ddf_bytes.specs.Streams.{SinkRose, SinkState}
 use Rattle.ddf_bytes.specs.declared.sink.SinkFault.{SinkFault}
@@ -35,10 +35,6 @@ closes_first tells old now new text expected status same closes = record {
     };
   };
 }
-
-none_long : (front : List (List ℕ)) → length front ≡ 0 → front ≡ []
-none_long [] long = refl
-none_long (sector ∷ front) long = absurd (omega (arith, long))
 
 -- a sink that gave out
 pub sink_rose : (before after : SinkState) (fault : SinkFault) → IsSinkFault before after fault → SinkRose before after
@@ -117,6 +113,6 @@ module _ {D : Type 0} (tells : Type 0) (v : Volume) (start count : ℕ) (told : 
           (subst (λ (n : ℕ). IsWithoutSource (work_of tells old new) v (start + gone) (min n piece_blocks) slot) most without_source);
       ends = closes_first told before after last (disk_fault_line slot) 3 status
           (λ is.
-          stopped.taken is ∙ ap (λ (l : List (List ℕ)). before.taken ++ bytes_of l) (none_long stopped.sectors (omega (arith, stopped.many, first))) ∙ append-nil before.taken)
+          stopped.taken is ∙ ap (λ (l : List (List ℕ)). before.taken ++ bytes_of l) (nil_from_length stopped.sectors (omega (arith, stopped.many, first))) ∙ append-nil before.taken)
           closes;
     }

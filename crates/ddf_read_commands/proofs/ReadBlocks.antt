@@ -4,9 +4,11 @@ use Rattle.std.specs.Prelude.{min, nat_lt, if◌then◌else◌}
 use Rattle.std.specs.Map.{lookup}
 use Rattle.std.specs.Option.{option_or}
 use Rattle.ddf_bytes.specs.Counts.{Rose}
+use Rattle.ddf_bytes.proofs.Common.{rose_behind}
 use Rattle.ddf_bay.specs.State.{BayState}
 use Rattle.ddf_bay.specs.Sectors.{Image}
 use Rattle.ddf_bay.specs.ReadsOnly.{LookFailed}
+use Rattle.ddf_bay.proofs.Steps.{rose_since}
 use Rattle.ddf_config.specs.declared.array.Array.{Array}
 use Rattle.ddf_config.specs.declared.refusal.Refusal.{Refusal}
 use Rattle.ddf_config.specs.declared.refusal.Refusal.TheVariants.{Degraded, Lost, Range, Unsure}
@@ -43,7 +45,6 @@ use Rattle.ddf_config.specs.Configuration.{Configuration}
 use Rattle.ddf_read_commands.specs.declared.using.Access.TheVariants.{Reads}
 use Rattle.ddf_read_commands.specs.Use.{IsUsable, MayUse, array_refusals, failure_of_volume, use_refusal}
 use Rattle.ddf_read.proofs.GivenLaws.{values_of}
-use Rattle.ddf_answer.proofs.Rises.{rose_later, rose_still}
 
 -- ---- more failures
 
@@ -81,7 +82,7 @@ module _ (P Q : ℕ → Type 0) (more : (slot : ℕ) → P slot → Q slot) wher
 -- a look failed, also where more reads followed
 pub look_later : {D : Type 0} (old middle new : BayState D) (slot : ℕ) → ((s : ℕ) → old.failed_reads s ≤ middle.failed_reads s) → OnlyReads middle new → LookFailed old middle slot → LookFailed old new slot
 look_later old middle new slot falls only failed = ⊎_elim
-    (λ read. inl (rose_still (old.failed_reads slot) (middle.failed_reads slot) (new.failed_reads slot) (falls slot) (only.never_falls slot) read))
+    (λ read. inl (rose_behind (old.failed_reads slot) (middle.failed_reads slot) (new.failed_reads slot) (falls slot) (only.never_falls slot) read))
     (λ synced. inr (synced.0, subst (λ (writes : ℕ → ℕ). Rose (old.failed_writes slot) (writes slot)) (sym only.same_writes) synced.1))
     failed
 
@@ -214,7 +215,7 @@ module _ {D : Type 0} (work : Work D) (config : Configuration) (seats : List Sea
 module _ {D : Type 0} (tells : Type 0) (old middle new : BayState D)
     (falls : (s : ℕ) → old.failed_reads s ≤ middle.failed_reads s) (same_held : middle.held ≡ old.held) (same_sizes : middle.sizes ≡ old.sizes) where
   more : (slot : ℕ) → Failed middle new slot → Failed old new slot
-  more slot failed = rose_later (old.failed_reads slot) (middle.failed_reads slot) (new.failed_reads slot) (falls slot) failed
+  more slot failed = rose_since (old.failed_reads slot) (middle.failed_reads slot) (new.failed_reads slot) (falls slot) failed
 
   module _ (v : Volume) where
     blocks_behind : (start : ℕ) (sectors : List (List ℕ)) → AreBlocks (work_of tells middle new) v start sectors → AreBlocks (work_of tells old new) v start sectors

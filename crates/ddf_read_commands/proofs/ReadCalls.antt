@@ -1,6 +1,7 @@
 -- How often a read of blocks calls the bay.
 use Rattle.std.proofs.Common.{◌≡◌, ◌∙◌, ℕ, ◌+◌, ◌≤◌, List, length, Option, Some, Result, Ok, Err, sym, ap, subst, inl, inr, arith}
 use Rattle.ddf_bay.specs.State.{BayState}
+use Rattle.ddf_bay.proofs.Steps.{rose_since}
 use Rattle.ddf_config.specs.declared.array.Array.{Array}
 use Rattle.ddf_config.specs.declared.seat.Seat.{Seat}
 use Rattle.ddf_config.specs.Configuration.{Configuration}
@@ -12,7 +13,6 @@ use Rattle.ddf_assembly.specs.Group.{UpToMemory}
 use Rattle.ddf_recovery.specs.Recovery.{trusted_seats}
 use Rattle.ddf_answer.specs.declared.failure.Failure.TheVariants.{Conflict, Disk, Memory, Refused, Split}
 use Rattle.ddf_answer.specs.Call.{Answer, Work}
-use Rattle.ddf_answer.proofs.Rises.{rose_later}
 use Rattle.ddf_read_commands.specs.Read.{CallsOfArray, CallsOfBlocks, CallsOfReading, CallsUnread, CutShort, GrewByPieces, IsArrayRead, IsReadTold, IsReadable, NotRead, Outcome, Stopped, Whole, most_looks, room_for}
 
 -- ---- where none was made
@@ -63,7 +63,7 @@ module _ {D : Type 0} (tells : Type 0) (old middle new : BayState D) (falls : (s
 
   pub array_behind : (config : Configuration) (seats : List Seat) (word : List ℕ) (start count : ℕ) → CallsOfArray middle new 0 config seats word start count → CallsOfArray old new most config seats word start count
   array_behind config seats word start count calls volume readable copied calm =
-      let grew = calls volume readable copied (λ slot on failed. calm slot on (rose_later (old.failed_reads slot) (middle.failed_reads slot) (new.failed_reads slot) (falls slot) failed)) in
+      let grew = calls volume readable copied (λ slot on failed. calm slot on (rose_since (old.failed_reads slot) (middle.failed_reads slot) (new.failed_reads slot) (falls slot) failed)) in
       record { pieces = grew.pieces; few = grew.few; grew = let more = grew.grew in omega (arith, more, looked) }
 
 module _ {D : Type 0} (work : Work D) (word : List ℕ) (start count : ℕ) where

@@ -5,6 +5,7 @@ use Rattle.ddf_bytes.specs.Streams.{SinkRose, SinkState}
 use Rattle.ddf_bay.specs.ReadsOnly.{ReadsOnly}
 use Rattle.ddf_bay.specs.Sectors.{Image}
 use Rattle.ddf_bay.specs.State.{BayState}
+use Rattle.ddf_bay.proofs.Steps.{rose_since}
 use Rattle.ddf_config.specs.declared.array.Array.{Array}
 use Rattle.ddf_config.specs.declared.refusal.Refusal.{Refusal}
 use Rattle.ddf_config.specs.declared.refusal.Refusal.TheVariants.{Lost}
@@ -37,7 +38,6 @@ use Rattle.ddf_answer.specs.Answers.{failure_of}
 use Rattle.ddf_answer.specs.Call.{Answer, Work, answer_of, work_of}
 use Rattle.ddf_answer.specs.Ends.{Ends, HasCause, SomeSlotRose}
 use Rattle.ddf_answer.proofs.Causes.{contradicted_told, fault_told, memory_cause, no_disk, refused_told, short_cause}
-use Rattle.ddf_answer.proofs.Rises.{rose_later}
 use Rattle.ddf_read_commands.specs.declared.using.Access.TheVariants.{Reads}
 use Rattle.ddf_read_commands.specs.Scrub.{IsScrubDone, IsScrubIn, IsScrubOf, IsScrubTold, scrub_refusal}
 use Rattle.ddf_read_commands.specs.Use.{IsUsable, MayUse, array_refusals, failure_of_volume, use_refusal}
@@ -102,7 +102,7 @@ module _ {D : Type 0} (work : Work D) (config : Configuration) (seats : List Sea
 module _ {D : Type 0} (tells : Type 0) (old middle new : BayState D)
     (falls : (s : ℕ) → old.failed_reads s ≤ middle.failed_reads s) (same_held : middle.held ≡ old.held) (same_sizes : middle.sizes ≡ old.sizes) where
   more : (slot : ℕ) → Failed middle new slot → Failed old new slot
-  more slot failed = rose_later (old.failed_reads slot) (middle.failed_reads slot) (new.failed_reads slot) (falls slot) failed
+  more slot failed = rose_since (old.failed_reads slot) (middle.failed_reads slot) (new.failed_reads slot) (falls slot) failed
 
   pub scrub_behind : (config : Configuration) (seats : List Seat) (word : List ℕ) (result : Result Scrub Failure) → IsScrubOf (work_of tells middle new) config seats word result
       → IsScrubOf (work_of tells old new) config seats word result

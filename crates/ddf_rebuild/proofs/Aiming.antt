@@ -1,6 +1,8 @@
 -- The sectors that are filled are none of the array's cells.
 use Rattle.std.proofs.Common.{◌≡◌, ◌∙◌, ⊎_elim, ℕ, ◌+◌, ◌-◌, ◌<◌, ◌≤◌, ◌^◌, List, Some, refl, sym, ap, subst, arith, slice_get, length}
 use Rattle.std.specs.Prelude.{slice_index}
+use Rattle.std.proofs.lemmas.Option.{same_Some}
+use Rattle.ddf_lemmas.proofs.Tests.{true_not_false}
 use Rattle.ddf_bay.specs.Sectors.{Image}
 use Rattle.ddf_primary.specs.Cells.{depth_of}
 use Rattle.ddf_primary.proofs.ShapeFacts.{depth_le}
@@ -13,15 +15,11 @@ use Rattle.ddf_array.specs.Apart.{IsApart}
 use Rattle.ddf_cells.specs.Apart.{LiesAt}
 use Rattle.ddf_cells.proofs.LyingApart.{lie_apart}
 use Rattle.ddf_cells.specs.Writing.{IsAmongSectors, StaysBut}
-use Rattle.ddf_cells.proofs.Lists.{true_not_false}
 use Rattle.ddf_cells.proofs.Surely.{of_place}
 use Rattle.ddf_rebuild.specs.declared.aim.Aim.{Aim}
 use Rattle.ddf_rebuild.specs.Target.{IsAim, IsAside}
 
-some_is : {X : Type 0} (x y : X) → Some x ≡ Some y → x ≡ y
-some_is x y e = cc
-
-cell_lies : (v : Volume) (slot lba : ℕ) → (is : IsCell v slot lba) → LiesAt v is.element is.position is.sector slot lba
+pub cell_lies : (v : Volume) (slot lba : ℕ) → (is : IsCell v slot lba) → LiesAt v is.element is.position is.sector slot lba
 cell_lies v slot lba is =
     let of = of_place is.part.places is.position is.sector (site_on slot lba) is.is_site in
     record { part = is.part; place = of.place; is_part = is.is_part; is_place = of.is_place; below = is.below; is_there = of.is_there; lba_is = of.lba_is }
@@ -30,8 +28,8 @@ cell_lies v slot lba is =
 pub same_target : (v : Volume) (element position : ℕ) (part part' : Part) (place place' : Place) → slice_get v.parts element ≡ Some part → slice_get v.parts element ≡ Some part'
     → slice_get part.places position ≡ Some place → slice_get part'.places position ≡ Some place' → (part ≡ part') × (place ≡ place')
 same_target v element position part part' place place' at at' in_part in_part' =
-    let same : part ≡ part' = some_is part part' (sym at ∙ at') in
-    (same, some_is place place' (sym in_part ∙ ap (λ (p : Part). slice_get p.places position) same ∙ in_part'))
+    let same : part ≡ part' = same_Some part part' (sym at ∙ at') in
+    (same, same_Some place place' (sym in_part ∙ ap (λ (p : Part). slice_get p.places position) same ∙ in_part'))
 
 -- where the target lies
 pub aim_there : (sizes : List ℕ) (v : Volume) (aim : Aim) (aims : IsAim v aim) → Fits sizes v → (aim.slot < length sizes) × (aim.start + aims.part.shape.blocks ≤ slice_index sizes aim.slot)

@@ -1,5 +1,6 @@
 -- An extent that is filled aside, by its sectors.
 use Rattle.std.proofs.Common.{◌≡◌, ◌∙◌, ℕ, ◌+◌, ◌-◌, Some, sym, ap, subst, arith, slice_get}
+use Rattle.std.proofs.lemmas.Option.{same_Some}
 use Rattle.ddf_bay.specs.State.{BayState}
 use Rattle.ddf_bay.specs.Moments.{StopsLeave}
 use Rattle.ddf_bay.specs.Sectors.{Image, Outcomes}
@@ -15,9 +16,6 @@ use Rattle.ddf_rebuild.specs.declared.aim.Aim.{Aim}
 use Rattle.ddf_rebuild.specs.Filling.{HoldsGiven, HoldsWanted, IsFilled, NoneLeftOf}
 use Rattle.ddf_rebuild.specs.Sectors.{AreGiven, AreRebuilt, NoneLeftIn}
 
-parts_are : (a b : Part) → Some a ≡ Some b → a ≡ b
-parts_are a b e = cc
-
 module _ (v : Volume) (e p element position slot start end : ℕ) (element_is : e ≡ element) (position_is : p ≡ position) (own : Part) (own_at : slice_get v.parts element ≡ Some own) (end_is : end ≡ depth_of own.shape) where
   abbrev aim : Aim
   aim = record { element = e; position = p; slot = slot; start = start }
@@ -26,7 +24,7 @@ module _ (v : Volume) (e p element position slot start end : ℕ) (element_is : 
   Among = IsAmongSectors slot (start + 0) (end - 0)
 
   deep : (part : Part) → slice_get v.parts element ≡ Some part → end ≡ depth_of part.shape
-  deep part part_at = end_is ∙ ap (λ (p : Part). depth_of p.shape) (parts_are own part (sym own_at ∙ part_at))
+  deep part part_at = end_is ∙ ap (λ (p : Part). depth_of p.shape) (same_Some own part (sym own_at ∙ part_at))
 
   filled : (s l : ℕ) → Among s l → IsFilled v element slot start s l
   filled s l is = record {

@@ -1,6 +1,7 @@
 -- Rows of the target, by its sectors.
 use Rattle.std.proofs.Common.{◌≡◌, ◌∙◌, ℕ, ◌+◌, ◌-◌, ◌*◌, ◌<◌, ◌≤◌, List, Some, sym, ap, subst, arith, slice_get}
 use Rattle.std.specs.Prelude.{min}
+use Rattle.std.proofs.lemmas.Option.{same_Some}
 use Rattle.ddf_bay.specs.State.{BayState}
 use Rattle.ddf_bay.specs.Moments.{StopsLeave}
 use Rattle.ddf_bay.specs.Sectors.{Image, Outcomes}
@@ -18,9 +19,6 @@ use Rattle.ddf_rebuild.specs.Rebuilding.{HasGiven, HasRebuilt, NoneLeftInRows, s
 use Rattle.ddf_rebuild.specs.Sectors.{AreGiven, AreRebuilt, NoneLeftIn}
 use Rattle.ddf_rebuild.specs.Target.{IsAim, IsInRows, IsTarget, IsTargetCell, IsTargetSlot}
 use Rattle.ddf_rebuild.proofs.Aiming.{same_target}
-
-slots_are : (a b : ℕ) → Some a ≡ Some b → a ≡ b
-slots_are a b e = cc
 
 -- the rows of an element that is looked up
 module _ (v : Volume) (aim : Aim) (aims : IsAim v aim) (own : Part) (own_is : own ≡ aims.part) (element position from to first end : ℕ) (element_is : aim.element ≡ element) (position_is : aim.position ≡ position)
@@ -72,7 +70,7 @@ module _ (v : Volume) (aim : Aim) (aims : IsAim v aim) (own : Part) (own_is : ow
   pub rows_all : (before now image : Image) → AreRebuilt v aim first end before now → ((l : ℕ) → image aim.slot l ≡ now aim.slot l) → HasRebuilt v element position from to before image
   rows_all before now image all same part place slot sector target rows =
       let looked = same_target v element position aims.part part aims.place place target_is.is_part target.is_part target_is.is_place target.is_place in
-      let slot_is : slot ≡ aim.slot = slots_are slot aim.slot (sym target.is_there ∙ ap (λ (p : Place). p.slot) (sym looked.1) ∙ aims.is_target.is_there) in
+      let slot_is : slot ≡ aim.slot = same_Some slot aim.slot (sym target.is_there ∙ ap (λ (p : Place). p.slot) (sym looked.1) ∙ aims.is_target.is_there) in
       let start : place.start + sector ≡ aim.start + sector = ap (λ (p : Place). p.start + sector) (sym looked.1) ∙ ap (λ n. n + sector) aims.start_is in
       let rows' : IsInRows aims.part.shape from to sector = subst (λ (p : Part). IsInRows p.shape from to sector) (sym looked.0) rows in
       let here = all part (ap (slice_get v.parts) element_is ∙ target.is_part) sector (omega (arith, rows'.from_is, first_is)) (omega (arith, rows'.to_is, rows'.below, end_is)) in
@@ -82,7 +80,7 @@ module _ (v : Volume) (aim : Aim) (aims : IsAim v aim) (own : Part) (own_is : ow
   pub rows_given : (failed : ℕ → Type 0) (before now : Image) → AreGiven failed v aim first end before now → HasGiven failed v element position from to before now
   rows_given failed before now all part place slot sector target rows =
       let looked = same_target v element position aims.part part aims.place place target_is.is_part target.is_part target_is.is_place target.is_place in
-      let slot_is : slot ≡ aim.slot = slots_are slot aim.slot (sym target.is_there ∙ ap (λ (p : Place). p.slot) (sym looked.1) ∙ aims.is_target.is_there) in
+      let slot_is : slot ≡ aim.slot = same_Some slot aim.slot (sym target.is_there ∙ ap (λ (p : Place). p.slot) (sym looked.1) ∙ aims.is_target.is_there) in
       let start : place.start + sector ≡ aim.start + sector = ap (λ (p : Place). p.start + sector) (sym looked.1) ∙ ap (λ n. n + sector) aims.start_is in
       let rows' : IsInRows aims.part.shape from to sector = subst (λ (p : Part). IsInRows p.shape from to sector) (sym looked.0) rows in
       let here = all part (ap (slice_get v.parts) element_is ∙ target.is_part) sector (omega (arith, rows'.from_is, first_is)) (omega (arith, rows'.to_is, rows'.below, end_is)) in

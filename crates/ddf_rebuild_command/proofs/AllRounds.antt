@@ -10,6 +10,7 @@ use Rattle.ddf_steps.specs.Ready.{ReadyStep}
 use Rattle.ddf_recovery.specs.Ready.{ReadyValue}
 use Rattle.ddf_answer.specs.declared.failure.Failure.{Failure}
 use Rattle.ddf_bay.specs.Told.{IsTold}
+use Rattle.ddf_write_commands.proofs.Costs.{with_steps}
 use Rattle.ddf_rebuild_command.specs.Filled.{AreFilled, CanFill, GoesFilling, IsFillFault, RiseTo, rounds_in}
 use Rattle.ddf_rebuild_command.proofs.RoundsThen as rounds_then
 
@@ -57,9 +58,6 @@ module _ (sizes : List ℕ) (seats : List Seat) (volume : Volume) (target : Targ
   from_row = can.rise.0
 
 -- ---- their rounds
-
-abbrev with_steps : Option ReadyStep → List ReadyStep → ReadyValue
-with_steps recovery steps = record { recovery = recovery; steps = steps }
 
 module _ {D : Type 0} (tells : Type 0) (volume : Volume) (target : Target) (from row : ℕ) (later : List ℕ) (found : GroupValue) (recovery : Option ReadyStep) where
   abbrev First : List ReadyStep → (old new : BayState D) → Bool → Type 0

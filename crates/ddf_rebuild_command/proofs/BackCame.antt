@@ -31,7 +31,7 @@ use Rattle.ddf_group_commands.specs.Others.{LeavesOthers}
 use Rattle.ddf_group_commands.specs.Requests.{linux_found, linux_members}
 use Rattle.ddf_group_commands.proofs.Beside.{reads_beside}
 use Rattle.ddf_group_commands.proofs.Keeping.{reads_keep}
-use Rattle.ddf_group_commands.proofs.Outcomes.{group_read, memory_told, unsynced_in, where_done}
+use Rattle.ddf_group_commands.proofs.Outcomes.{group_read, memory_told, unsynced_in, where_done, found_same}
 use Rattle.ddf_write_commands.specs.Plans.{IsNotReadied}
 use Rattle.ddf_rebuild_command.specs.BackAlong.{ComesAlongBack}
 use Rattle.ddf_rebuild_command.specs.GoingBack.{copyback_request}
@@ -52,10 +52,7 @@ pub record HasRunBack {D : Type 0} (tells : Type 0) (entry start new : BayState 
   pub along : tells → (left : List Bool) (named : Option (List ℕ)) → IsFoundBy start left named found → (group : List ℕ) → found.config.group ≡ group → (past : Past (groups group)) → AreAllKept group past entry
       → IsAdmitted group past entry left found → (plan : IsBackPlanned entry.sizes found timestamp word slot) × ComesAlongBack group (work_of tells entry new) past left found plan (is_done outcome)
 
-found_same : (one other : GroupValue) → ◌≡◌ {A = Result GroupValue Assembly} (Ok one) (Ok other) → one ≡ other
-found_same one other is = cc
-
-steps_same : (one other : List Step) → ◌≡◌ {A = Result (List Step) Failure} (Ok one) (Ok other) → one ≡ other
+pub steps_same : (one other : List Step) → ◌≡◌ {A = Result (List Step) Failure} (Ok one) (Ok other) → one ≡ other
 steps_same one other is = cc
 
 -- ---- nothing was done

@@ -5,6 +5,7 @@ use Rattle.ddf_bay.specs.Moments.{StopsLeave}
 use Rattle.ddf_bay.specs.ReadsOnly.{ReadsOnly}
 use Rattle.ddf_bay.specs.Sectors.{IsLeft}
 use Rattle.ddf_bay.specs.State.{BayState}
+use Rattle.ddf_bay.proofs.Steps.{rose_since}
 use Rattle.ddf_config.specs.Seats.{SeatsFit}
 use Rattle.ddf_history.specs.Groups.{groups}
 use Rattle.ddf_history.specs.Issued.{Past}
@@ -15,7 +16,6 @@ use Rattle.ddf_history_steps.specs.Kept.{AreAllKept}
 use Rattle.ddf_answer.specs.declared.failure.Failure.{Failure}
 use Rattle.ddf_answer.specs.declared.failure.Failure.TheVariants.{Conflict, Disk, Memory, Refused, Split}
 use Rattle.ddf_answer.specs.Call.{Work, work_of}
-use Rattle.ddf_answer.proofs.Rises.{rose_later}
 use Rattle.ddf_group_commands.specs.GroupRead.{IsFoundBy}
 use Rattle.ddf_group_commands.proofs.LeftWriting.{left_still, writing_since}
 use Rattle.ddf_rebuild_command.specs.BackAlong.{ComesAlongBack, IsAlongBack}
@@ -40,7 +40,7 @@ module _ {D : Type 0} (tells : Type 0) (entry start new : BayState D) (reads : R
     are_asked = plan.are_asked;
     is_seat = fault.0;
     there = seat_there entry.sizes found.seats fit failed fault.0;
-    rose = rose_later (entry.failed_writes failed) (start.failed_writes failed) (new.failed_writes failed) (writes_rise failed) fault.1;
+    rose = rose_since (entry.failed_writes failed) (start.failed_writes failed) (new.failed_writes failed) (writes_rise failed) fault.1;
   })
   unopened_fault Memory fault = absurd fault
   unopened_fault (Refused refusal) fault = absurd fault

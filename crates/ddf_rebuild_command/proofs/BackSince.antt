@@ -1,11 +1,12 @@
 -- A copyback since the entry of its call: its group is read and recovered, the room is filled, and then the last step is written.
 use Rattle.std.proofs.Common.{◌≡◌, ◌⊎◌, ℕ, ◌+◌, ◌<◌, ◌≤◌, Bool, true, false, List, [], ◌∷◌, ◌++◌, length, Option, Some, Ok, Err, if◌then◌else◌, refl, sym, ap, subst, ◌∙◌, inl, inr, ⊎_elim, arith}
 use Rattle.std.proofs.lemmas.Bool.{false≢true}
+use Rattle.ddf_bytes.proofs.Common.{rose_behind}
 use Rattle.ddf_bay.specs.Moments.{StopsLeave}
 use Rattle.ddf_bay.specs.ReadsOnly.{ReadsOnly}
 use Rattle.ddf_bay.specs.Sectors.{Image, IsLeft}
 use Rattle.ddf_bay.specs.State.{BayState}
-use Rattle.ddf_bay.proofs.Steps.{stops_then, stops_weaken}
+use Rattle.ddf_bay.proofs.Steps.{stops_then, stops_weaken, rose_since}
 use Rattle.ddf_cells.specs.Writing.{IsLeftBut}
 use Rattle.ddf_cells.proofs.GivenSteps.{wanted_wider}
 use Rattle.ddf_cells.specs.CellSources.{cell_sources}
@@ -32,7 +33,6 @@ use Rattle.ddf_history_steps.proofs.Entering.{admitted_still, kept_still}
 use Rattle.ddf_answer.specs.declared.failure.Failure.{Failure}
 use Rattle.ddf_answer.specs.declared.failure.Failure.TheVariants.{Conflict, Disk, Memory, Refused, Split}
 use Rattle.ddf_answer.specs.Call.{Work, work_of}
-use Rattle.ddf_answer.proofs.Rises.{rose_later, rose_still}
 use Rattle.ddf_group_commands.specs.GroupRead.{IsFoundBy}
 use Rattle.ddf_group_commands.specs.Others.{LeavesOthers}
 use Rattle.ddf_group_commands.specs.Writing.{IsLeftWriting}
@@ -40,6 +40,7 @@ use Rattle.ddf_group_commands.specs.Written.{AreWritten}
 use Rattle.ddf_group_commands.proofs.Beside.{beside_since}
 use Rattle.ddf_group_commands.proofs.LeftWriting.{left_still, writing_more, writing_since}
 use Rattle.ddf_write_commands.specs.Holding.{holding}
+use Rattle.ddf_write_commands.proofs.Sparing.{written_since}
 use Rattle.ddf_rebuild_command.specs.BackAlong.{ComesAlongBack, EndsAlongBack, HasGone, IsAlongBack}
 use Rattle.ddf_rebuild_command.specs.BackPlanned.{IsBackLeftAt, IsBackPlanned, IsCopied, IsLeftGoingBack}
 use Rattle.ddf_rebuild_command.specs.BackPlanned.BackStage.{Copying, Opening, Returning}
@@ -51,7 +52,7 @@ use Rattle.ddf_rebuild_command.specs.Rounds.{IsSure}
 use Rattle.ddf_rebuild_command.specs.Standing.{AddsNothing, GoesNext, IsNextWritten, IsSlotFault}
 use Rattle.ddf_rebuild_command.proofs.Coming.{change_of, changes_both, goes_more, issue_goes, next_over, over_counts, over_goes}
 use Rattle.ddf_rebuild_command.proofs.OneRound.{stops_both}
-use Rattle.ddf_rebuild_command.proofs.PositionRun.{seat_there, written_since}
+use Rattle.ddf_rebuild_command.proofs.PositionRun.{seat_there}
 use Rattle.ddf_rebuild_command.proofs.RoundsMore.{left_holding}
 use Rattle.ddf_rebuild_command.proofs.Writings.{last_then}
 
@@ -234,7 +235,7 @@ module _ {D : Type 0} (tells : Type 0) (entry start mid new : BayState D) (reads
 
   since_mid : (s : ℕ) → Failed mid new s → Failed entry new s
   since_mid s failed =
-      rose_later (entry.failed_reads s) (mid.failed_reads s) (new.failed_reads s) (let one = reads_rise s in let other = opens.goes.reads_rise s in omega (arith, one, other)) failed
+      rose_since (entry.failed_reads s) (mid.failed_reads s) (new.failed_reads s) (let one = reads_rise s in let other = opens.goes.reads_rise s in omega (arith, one, other)) failed
 
   pub unfilled_fault : (failure : Failure) → IsCopyFault tells mid new plan.volume plan.target plan.to plan.room.start opened_found opened_ready failure → IsBackOf (work_of tells entry new) found timestamp word slot (Err failure)
   unfilled_fault (Disk failed) fault =
@@ -245,7 +246,7 @@ module _ {D : Type 0} (tells : Type 0) (entry start mid new : BayState D) (reads
         are_asked = plan.are_asked;
         is_seat = seat;
         there = seat_there entry.sizes found.seats fit failed seat;
-        rose = rose_later (entry.failed_writes failed) (mid.failed_writes failed) (new.failed_writes failed) (let one = writes_rise failed in let other = opens.goes.writes_rise failed in omega (arith, one, other)) wrote.1;
+        rose = rose_since (entry.failed_writes failed) (mid.failed_writes failed) (new.failed_writes failed) (let one = writes_rise failed in let other = opens.goes.writes_rise failed in omega (arith, one, other)) wrote.1;
       }))
       (λ none. inr (record {
         plan = plan;
@@ -305,8 +306,8 @@ module _ {D : Type 0} (tells : Type 0) (entry start mid behind new : BayState D)
 
   to_new : (s : ℕ) → Failed mid behind s → Failed entry new s
   to_new s failed =
-      rose_later (entry.failed_reads s) (mid.failed_reads s) (new.failed_reads s) (let low = reads_rise s in let other = opens.goes.reads_rise s in omega (arith, low, other))
-      (rose_still (mid.failed_reads s) (behind.failed_reads s) (new.failed_reads s) (copying.goes.reads_rise s) (returning.goes.reads_rise s) failed)
+      rose_since (entry.failed_reads s) (mid.failed_reads s) (new.failed_reads s) (let low = reads_rise s in let other = opens.goes.reads_rise s in omega (arith, low, other))
+      (rose_behind (mid.failed_reads s) (behind.failed_reads s) (new.failed_reads s) (copying.goes.reads_rise s) (returning.goes.reads_rise s) failed)
 
   is_copied : tells → IsCopied (Failed entry new) new.tells_left plan.volume plan.target plan.to plan.room.start mid.held behind.held
   is_copied told =
@@ -492,7 +493,7 @@ module _ {D : Type 0} (tells : Type 0) (entry start mid behind new : BayState D)
         are_asked = plan.are_asked;
         is_seat = seat;
         there = seat_there entry.sizes found.seats fit failed seat;
-        rose = rose_later (entry.failed_writes failed) (behind.failed_writes failed) (new.failed_writes failed)
+        rose = rose_since (entry.failed_writes failed) (behind.failed_writes failed) (new.failed_writes failed)
             (let low = writes_rise failed in let other = opens.goes.writes_rise failed in let more = copying.goes.writes_rise failed in omega (arith, low, other, more)) fault.1;
       })
   run_fault Memory fault = absurd fault

@@ -22,7 +22,7 @@ use Rattle.ddf_answer.proofs.Costs.{none_written}
 use Rattle.ddf_group_commands.specs.Costs.{ready_sectors}
 use Rattle.ddf_write_commands.specs.Around.{rest}
 use Rattle.ddf_write_commands.specs.Costs.{sectors_before}
-use Rattle.ddf_write_commands.proofs.Costs.{before_add}
+use Rattle.ddf_write_commands.proofs.Costs.{before_add, with_steps}
 use Rattle.ddf_rebuild_command.specs.Costs.{CostsOf, sectors_from}
 
 -- ---- calls
@@ -58,9 +58,6 @@ rows_below : (shape : Placement) (from row : ℕ) → sectors_of shape from row 
 rows_below shape from row = part_below (depth_of shape) (from * height_of shape) (row * height_of shape)
 
 -- ---- steps
-
-abbrev with_steps : Option ReadyStep → List ReadyStep → ReadyValue
-with_steps recovery steps = record { recovery = recovery; steps = steps }
 
 next_add : (recovery : Option ReadyStep) (steps : List ReadyStep)
     → all_sectors (next_updates (with_steps recovery steps)) + ready_sectors (left_behind (with_steps recovery steps)).steps ≤ ready_sectors steps

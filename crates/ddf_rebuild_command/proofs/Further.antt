@@ -3,7 +3,7 @@ use Rattle.std.proofs.Common.{◌≡◌, ℕ, ◌<◌, ◌≤◌, Bool, true, fa
 use Rattle.ddf_bay.specs.Moments.{StopsLeave}
 use Rattle.ddf_bay.specs.Sectors.{Image}
 use Rattle.ddf_bay.specs.State.{BayState}
-use Rattle.ddf_bay.proofs.Steps.{stops_then, stops_weaken}
+use Rattle.ddf_bay.proofs.Steps.{stops_then, stops_weaken, rose_since}
 use Rattle.ddf_config.specs.declared.seat.Seat.{Seat}
 use Rattle.ddf_config.specs.Configuration.{Configuration}
 use Rattle.ddf_update.specs.Group.{IsOneOf}
@@ -23,7 +23,6 @@ use Rattle.ddf_history_steps.specs.Kept.{AreAllKept, is_read, is_slot}
 use Rattle.ddf_history_steps.specs.Steps.{StandsReady, behind_next, with_next}
 use Rattle.ddf_answer.specs.declared.failure.Failure.{Failure}
 use Rattle.ddf_answer.specs.declared.failure.Failure.TheVariants.{Conflict, Disk, Memory, Refused, Split}
-use Rattle.ddf_answer.proofs.Rises.{rose_later}
 use Rattle.ddf_group_commands.specs.Change.{last_sequence}
 use Rattle.ddf_group_commands.specs.GroupRead.{IsFoundBy}
 use Rattle.ddf_group_commands.specs.Others.{LeavesOthers}
@@ -31,15 +30,13 @@ use Rattle.ddf_group_commands.specs.Writing.{IsLeftWriting}
 use Rattle.ddf_group_commands.specs.Written.{AreWritten}
 use Rattle.ddf_write_commands.proofs.Arrays.{goes_then}
 use Rattle.ddf_bay.specs.Told.{IsTold}
+use Rattle.ddf_write_commands.proofs.Costs.{with_steps}
 use Rattle.ddf_rebuild_command.specs.Opened.{GoesOpening, IsOpened}
 use Rattle.ddf_rebuild_command.specs.Standing.{GoesNext, IsNextWritten, IsSlotFault, next_in}
 use Rattle.ddf_rebuild_command.proofs.Coming.{change_of, changes_both, goes_more, issue_goes, next_over, over_goes}
 use Rattle.ddf_rebuild_command.proofs.Writings.{last_then, writing_first, writing_then, written_then}
 
 -- ---- the next step in a history
-
-abbrev with_steps : Option ReadyStep → List ReadyStep → ReadyValue
-with_steps recovery steps = record { recovery = recovery; steps = steps }
 
 module _ (group : List ℕ) (past : Past (groups group)) (readable : ℕ → Bool) (found : GroupValue) (before : List Step) (now : Past (groups group))
     (over : IsOver group past readable found (changes_in found before) now) (loses : some found.absent ≡ true → 1 ≤ length (changes_in found before)) (sequence : ℕ) (le : found.config.sequence ≤ sequence)
@@ -220,7 +217,7 @@ pub fault_further : {D : Type 0} (old middle new : BayState D) (seats now_seats 
     → (failure : Failure) → IsSlotFault middle new (slots_of now_seats) failure → IsSlotFault old new (slots_of seats) failure
 fault_further old middle new seats now_seats same rises (Disk slot) fault = (
   subst (λ (all : List Seat). IsOneOf (slots_of all) slot) same fault.0,
-  rose_later (old.failed_writes slot) (middle.failed_writes slot) (new.failed_writes slot) (rises slot) fault.1,
+  rose_since (old.failed_writes slot) (middle.failed_writes slot) (new.failed_writes slot) (rises slot) fault.1,
 )
 fault_further old middle new seats now_seats same rises Memory fault = absurd fault
 fault_further old middle new seats now_seats same rises (Refused refusal) fault = absurd fault

@@ -16,7 +16,7 @@ mod Examples
 mod Coming
 mod NextStep
 mod Recovery
-mod Writings
+pub mod Writings
 mod Further
 mod TargetCells
 mod RoundsMore
@@ -37,7 +37,7 @@ mod RoomRun
 mod BackRan
 mod BackChosen
 pub mod BackMade
-mod BackCame
+pub mod BackCame
 mod BackSince
 mod PlanBack
 mod BackOpening

@@ -12,13 +12,11 @@ use Rattle.ddf_recovery.specs.Ready.{ReadyValue}
 use Rattle.ddf_answer.specs.declared.failure.Failure.{Failure}
 use Rattle.ddf_read_commands.specs.Use.{failure_of_volume}
 use Rattle.ddf_bay.specs.Told.{IsTold}
+use Rattle.ddf_write_commands.proofs.Costs.{with_steps}
 use Rattle.ddf_rebuild_command.specs.Filled.{AreFilled, CanFill, GoesFilling, IsFillFault, rounds_in}
 use Rattle.ddf_rebuild_command.specs.Standing.{GoesNext, IsNextWritten, IsSlotFault, Stands}
 use Rattle.ddf_rebuild_command.proofs.OneRound as one_round
 use Rattle.ddf_rebuild_command.proofs.OneRound.{FillsRows}
-
-abbrev with_steps : Option ReadyStep → List ReadyStep → ReadyValue
-with_steps recovery steps = record { recovery = recovery; steps = steps }
 
 module _ {D : Type 0} (tells : Type 0) (old middle : BayState D) (volume : Volume) (target : Target) (from row end : ℕ) (found : GroupValue)
     (can : CanFill old.sizes found.seats volume target end from (row ∷ [])) (recovery : Option ReadyStep) (done : Bool) (rows : FillsRows tells old middle volume target from row done) where

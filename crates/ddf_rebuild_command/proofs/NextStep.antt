@@ -1,6 +1,5 @@
 -- The next step of a group that stands on its disks, by what the call promises that writes it.
-use Rattle.std.proofs.Common.{◌≡◌, ℕ, Bool, true, false, List, [], ◌∷◌, length, Option, None, Some, refl, sym, subst, ◌∙◌, inl, inr, ⊎_elim, arith}
-use Rattle.std.proofs.lemmas.Bool.{false≢true}
+use Rattle.std.proofs.Common.{◌≡◌, ℕ, Bool, true, false, List, [], ◌∷◌, length, Option, None, Some, refl, sym, subst, inl, inr, ⊎_elim, arith}
 use Rattle.std.specs.Prelude.{slice_get}
 use Rattle.ddf_bay.specs.Moments.{Costs, StopsLeave}
 use Rattle.ddf_bay.specs.Sectors.{Image, IsLeft}
@@ -27,7 +26,6 @@ use Rattle.ddf_history_steps.specs.Kept.{ReadsTrue, is_slot}
 use Rattle.ddf_history_steps.specs.Steps.{IsCommit, KeepsStep, StandsReady, behind_next}
 use Rattle.ddf_history_steps.proofs.CommittingKeeps as committing
 use Rattle.ddf_history_steps.proofs.CommittingKeeps.{commit_keeps, stands_behind}
-use Rattle.ddf_history_steps.proofs.Slots.{slot_is}
 use Rattle.ddf_history_steps.proofs.Floored.{next_floored}
 use Rattle.ddf_group_commands.specs.Writing.{IsLeftWriting}
 use Rattle.ddf_group_commands.specs.Written.{AreWritten}
@@ -36,6 +34,8 @@ use Rattle.ddf_group_commands.proofs.LeftWriting.{left_still, says_one, step_lea
 use Rattle.ddf_group_commands.proofs.Recovering.{next_on_seat}
 use Rattle.ddf_group_commands.proofs.StepsWritten.{committed_written, none_asked}
 use Rattle.ddf_bay.specs.Told.{IsTold}
+use Rattle.ddf_group_commands.proofs.Beside.{not_among}
+use Rattle.ddf_write_commands.proofs.Costs.{with_steps}
 use Rattle.ddf_rebuild_command.specs.Standing.{AddsNothing, GoesNext, IsNextWritten, KeepSeats, Stands, next_in}
 
 -- What is left at the end of a call is left on its way, or was so before.
@@ -44,16 +44,7 @@ pub left_at_end : {D : Type 0} (old new : BayState D) → IsTold old → IsTold 
 left_at_end old new tells_old tells_new P moments before image left =
     stops_all tells_old.only_now moments before image (tells_new.counts old.moment image moments.later left)
 
--- A slot that is none of these isn't among some that are.
-pub not_among : (seats slots : List ℕ) → ((slot : ℕ) → IsOneOf slots slot → IsOneOf seats slot) → (s : ℕ) → is_slot seats s ≡ false → (place : ℕ) → slice_get slots place ≡ Some s → ⊥
-not_among seats slots on s other place at =
-    let one = on s (record { place = place; is_there = at }) in
-    false≢true (sym other ∙ slot_is seats one.place s one.is_there)
-
 -- ---- the group behind it
-
-abbrev with_steps : Option ReadyStep → List ReadyStep → ReadyValue
-with_steps recovery steps = record { recovery = recovery; steps = steps }
 
 next_seats : (found : GroupValue) (recovery : Option ReadyStep) (steps : List ReadyStep) → KeepSeats found.seats steps → (group_next found (with_steps recovery steps)).seats ≡ found.seats
 next_seats found recovery [] keep = refl

@@ -1,10 +1,11 @@
 -- One round of a rebuild, by what the calls promise that fill its rows and write its step.
 use Rattle.std.proofs.Common.{◌≡◌, ℕ, ◌+◌, ◌<◌, ◌≤◌, Bool, true, false, List, [], ◌∷◌, Option, if◌then◌else◌, refl, sym, ap, subst, ◌∙◌, inl, inr, ⊎_elim, arith}
 use Rattle.std.proofs.lemmas.Bool.{false≢true}
+use Rattle.ddf_bytes.proofs.Common.{rose_behind}
 use Rattle.ddf_bay.specs.Moments.{StopsLeave}
 use Rattle.ddf_bay.specs.Sectors.{Image}
 use Rattle.ddf_bay.specs.State.{BayState}
-use Rattle.ddf_bay.proofs.Steps.{stops_then, stops_weaken}
+use Rattle.ddf_bay.proofs.Steps.{stops_then, stops_weaken, rose_since}
 use Rattle.ddf_array.specs.Volume.{Volume}
 use Rattle.ddf_cells.specs.CellSources as cells
 use Rattle.ddf_cells.proofs.GivenSteps.{wanted_wider}
@@ -34,7 +35,6 @@ use Rattle.ddf_history_steps.proofs.Course.{ready_still}
 use Rattle.ddf_history_steps.proofs.Floored.{seats_have_floors}
 use Rattle.ddf_answer.specs.declared.failure.Failure.{Failure}
 use Rattle.ddf_answer.specs.declared.failure.Failure.TheVariants.{Conflict, Disk, Memory, Refused, Split}
-use Rattle.ddf_answer.proofs.Rises.{rose_later, rose_still}
 use Rattle.ddf_read_commands.specs.Use.{failure_of_volume}
 use Rattle.ddf_group_commands.specs.Others.{LeavesOthers}
 use Rattle.ddf_group_commands.specs.Writing.{IsLeftWriting}
@@ -174,7 +174,7 @@ module _ {D : Type 0} (tells : Type 0) (old middle : BayState D) (volume : Volum
 
     module _ (tells_old : IsTold old) (tells_middle : IsTold middle) (new : BayState D) (tells_new : IsTold new) (noted : Bool) (next : GoesNext tells middle new found ready noted) where
       to_new : (slot : ℕ) → Failed old middle slot → Failed old new slot
-      to_new slot failed = rose_still (old.failed_reads slot) (middle.failed_reads slot) (new.failed_reads slot) (rows.goes.reads_rise slot) (next.goes.reads_rise slot) failed
+      to_new slot failed = rose_behind (old.failed_reads slot) (middle.failed_reads slot) (new.failed_reads slot) (rows.goes.reads_rise slot) (next.goes.reads_rise slot) failed
 
       sure_by : IsSure (Failed old new) volume old.held → cells.IsSure volume old middle
       sure_by (inl none) = inl (λ slot on failed. none slot on (to_new slot failed))
@@ -277,7 +277,7 @@ module _ {D : Type 0} (tells : Type 0) (old middle : BayState D) (volume : Volum
 
       -- Its step failed.
       pub round_fault : (failure : Failure) → IsSlotFault middle new slots failure → IsFillFault tells old new volume target from rounds found ready row failure
-      round_fault (Disk slot) fault = (fault.0, inl (rose_later (old.failed_writes slot) (middle.failed_writes slot) (new.failed_writes slot) (rows.goes.writes_rise slot) fault.1))
+      round_fault (Disk slot) fault = (fault.0, inl (rose_since (old.failed_writes slot) (middle.failed_writes slot) (new.failed_writes slot) (rows.goes.writes_rise slot) fault.1))
       round_fault Memory fault = absurd fault
       round_fault (Refused refusal) fault = absurd fault
       round_fault (Conflict i j sequence differ) fault = absurd fault

@@ -5,7 +5,9 @@ use Rattle.std.proofs.lemmas.List.{length-map}
 use Rattle.std.proofs.lemmas.Option.{slice_get_within}
 use Rattle.std.specs.Prelude.{filter, find, option_map, slice_get}
 use Rattle.std.specs.List.{range_with_len}
-use Rattle.std.specs.Option.{option_and_then, option_or}
+use Rattle.std.specs.Option.{option_and_then}
+use Rattle.ddf_lemmas.proofs.Lists.{found_place}
+use Rattle.ddf_lemmas.proofs.Options.{none_of_both}
 use Rattle.ddf_bytes.specs.Choices.{first_of, when}
 use Rattle.ddf_copy.specs.declared.copy.DiskCopy.{DiskCopy}
 use Rattle.ddf_copy.specs.declared.newest_copy.Newest.{Newest}
@@ -32,10 +34,6 @@ use Rattle.ddf_history_steps.proofs.Seats.{seat_there, view_at}
 
 -- ---- pairs of numbers
 
-neither : {Y : Type 0} (a b : Option Y) → option_or a b ≡ None → (a ≡ None) × (b ≡ None)
-neither None b e = (refl, e)
-neither (Some y) b e = absurd cc
-
 module _ {Y : Type 0} (passes : ℕ → Bool) where
   with_none : (test : ℕ → Option Y) (a n : ℕ) → first_with test (filter passes (range_with_len a n)) ≡ None → (t : ℕ) → a ≤ t → t < a + n → passes t ≡ true → test t ≡ None
   with_none test a zero none t low high is = absurd (omega (arith, low, high))
@@ -43,7 +41,7 @@ module _ {Y : Type 0} (passes : ℕ → Bool) where
     where
       by : (later : first_with test (filter passes (range_with_len (a + 1) n)) ≡ None → a < t → test t ≡ None) (b : Bool) → passes a ≡ b → first_with test (cond b (a ∷ filter passes (range_with_len (a + 1) n)) (filter passes (range_with_len (a + 1) n))) ≡ None → test t ≡ None
       by later true e both =
-          let halves = neither (test a) (first_with test (filter passes (range_with_len (a + 1) n))) both in
+          let halves = none_of_both (test a) (first_with test (filter passes (range_with_len (a + 1) n))) both in
           ⊎_elim (λ (behind : a < t). later halves.1 behind) (λ (here : t ≤ a). let same : a ≡ t = omega (arith, here, low) in ap test (sym same) ∙ halves.0) (cases_lt a t)
       by later false e rest =
           ⊎_elim (λ (behind : a < t). later rest behind)
@@ -56,7 +54,7 @@ module _ {Y : Type 0} (passes : ℕ → Bool) where
     where
       by : (later : first_pair test (filter passes (range_with_len (a + 1) n)) ≡ None → a < s → test s t ≡ None) (b : Bool) → passes a ≡ b → first_pair test (cond b (a ∷ filter passes (range_with_len (a + 1) n)) (filter passes (range_with_len (a + 1) n))) ≡ None → test s t ≡ None
       by later true e both =
-          let halves = neither (first_with (test a) (filter passes (range_with_len (a + 1) n))) (first_pair test (filter passes (range_with_len (a + 1) n))) both in
+          let halves = none_of_both (first_with (test a) (filter passes (range_with_len (a + 1) n))) (first_pair test (filter passes (range_with_len (a + 1) n))) both in
           ⊎_elim (λ (behind : a < s). later halves.1 behind)
           (λ (here : s ≤ a).
           let same : a ≡ s = omega (arith, here, low) in
@@ -90,8 +88,8 @@ sound slots named found is = by (chosen slots named) is
 no_twins : (slots : List Shown) (group : List ℕ) → contradiction slots group ≡ None → twins slots group ≡ None
 unfolding contradiction
 no_twins slots group none =
-    (neither (twins slots group) (first_of (differing slots group ∷ split_in slots group ∷ []))
-    (neither (two_copies slots group) (first_of (twins slots group ∷ differing slots group ∷ split_in slots group ∷ [])) none).1).0
+    (none_of_both (twins slots group) (first_of (differing slots group ∷ split_in slots group ∷ []))
+    (none_of_both (two_copies slots group) (first_of (twins slots group ∷ differing slots group ∷ split_in slots group ∷ [])) none).1).0
 
 twin_there : (slots : List Shown) (group : List ℕ) (i j : ℕ) (a b : Option ℕ) (r : ℕ) → a ≡ Some r → b ≡ Some r
     → option_map (λ reference. in_conflict slots group i j (differs.Twin reference)) (same_reference a b) ≡ None → ⊥
@@ -105,15 +103,6 @@ twin_there slots group i j (Some x) (Some y) r one other none =
     absurd cc
 
 -- ---- what is found in a list
-
-found_there : {X : Type 0} (test : X → Bool) (xs : List X) (x : X) → find test xs ≡ Some x → (place : ℕ) × (slice_get xs place ≡ Some x) × (test x ≡ true)
-found_there test [] x e = absurd cc
-found_there test (first ∷ xs) x e = by (λ rest. found_there test xs x rest) (test first) refl e
-  where
-    by : (later : find test xs ≡ Some x → (place : ℕ) × (slice_get xs place ≡ Some x) × (test x ≡ true)) (b : Bool) → test first ≡ b → cond b (Some first) (find test xs) ≡ Some x
-        → (place : ℕ) × (slice_get (first ∷ xs) place ≡ Some x) × (test x ≡ true)
-    by later true is e = let same : first ≡ x = cc in (0, ap Some same, ap test (sym same) ∙ is)
-    by later false is e = let rest = later e in (suc rest.0, rest.1, rest.2)
 
 never_none : {X : Type 0} (test : X → Bool) (xs : List X) (place : ℕ) (x : X) → slice_get xs place ≡ Some x → test x ≡ true → find test xs ≡ None → ⊥
 never_none test [] place x at passes none = absurd cc
@@ -184,14 +173,14 @@ module _ (newest : List (Option Newest)) (named : Option (List ℕ)) (g : GroupV
   -- So the disk that is found on a slot is found there by its reference.
   pub slot_of_on : (slot : ℕ) (seat : Seat) → find (is_on slot) g.seats ≡ Some seat → (slot_of g.seats seat.reference ≡ slot) × (floor_of g.seats seat.reference ≡ None → ⊥)
   slot_of_on slot seat at =
-      let own = found_there (is_on slot) g.seats seat at in
+      let own = found_place (is_on slot) g.seats seat at in
       by own.0 own.1 (eqb-true seat.slot slot own.2) (find (λ (one : Seat). nat_eq one.reference seat.reference) g.seats) refl
     where
       by : (place : ℕ) → slice_get g.seats place ≡ Some seat → seat.slot ≡ slot → (o : Option Seat) → find (λ (one : Seat). nat_eq one.reference seat.reference) g.seats ≡ o
           → (slot_of g.seats seat.reference ≡ slot) × (floor_of g.seats seat.reference ≡ None → ⊥)
       by place there on None e = absurd (never_none (λ (one : Seat). nat_eq one.reference seat.reference) g.seats place seat there (eq-eqb seat.reference seat.reference refl) e)
       by place there on (Some other) e =
-          let its = found_there (λ (one : Seat). nat_eq one.reference seat.reference) g.seats other e in (
+          let its = found_place (λ (one : Seat). nat_eq one.reference seat.reference) g.seats other e in (
             ap (λ (o : Option Seat). elim o [ None ↦ 64 | Some one ↦ one.slot ]) e
                 ∙ one_slot its.0 place other seat its.1 there (eqb-true other.reference seat.reference its.2) ∙ on,
             λ none. let some : option_map (λ (one : Seat). one.floor) (Some other) ≡ None = ap (option_map (λ (one : Seat). one.floor)) (sym e) ∙ none in absurd cc,

@@ -5,7 +5,7 @@ use Rattle.ddf_bay.specs.Moments.{StopsLeave}
 use Rattle.ddf_bay.specs.ReadsOnly.{ReadsOnly}
 use Rattle.ddf_bay.specs.Sectors.{Image, IsLeft}
 use Rattle.ddf_bay.specs.State.{BayState}
-use Rattle.ddf_bay.proofs.Steps.{stops_then, stops_weaken}
+use Rattle.ddf_bay.proofs.Steps.{stops_then, stops_weaken, rose_since}
 use Rattle.ddf_config.specs.declared.seat.Seat.{Seat}
 use Rattle.ddf_config.specs.Configuration.{Configuration}
 use Rattle.ddf_config.specs.Seats.{SeatsFit}
@@ -22,7 +22,6 @@ use Rattle.ddf_history_steps.specs.Kept.{AreAllKept, is_read}
 use Rattle.ddf_answer.specs.declared.failure.Failure.{Failure}
 use Rattle.ddf_answer.specs.declared.failure.Failure.TheVariants.{Conflict, Disk, Memory, Refused, Split}
 use Rattle.ddf_answer.specs.Call.{Work, work_of}
-use Rattle.ddf_answer.proofs.Rises.{rose_later}
 use Rattle.ddf_group_commands.specs.Change.{steps_of as steps_asked}
 use Rattle.ddf_group_commands.specs.Requests.{linux_members}
 use Rattle.ddf_group_commands.specs.GroupRead.{IsFoundBy}
@@ -40,9 +39,10 @@ use Rattle.ddf_rebuild_command.specs.Stages.Stage.{Opening}
 use Rattle.ddf_rebuild_command.specs.Standing.{IsSlotFault}
 use Rattle.ddf_rebuild_command.proofs.Coming.{changes_both, goes_more}
 use Rattle.ddf_rebuild_command.proofs.OneRound.{stops_both}
-use Rattle.ddf_rebuild_command.proofs.PositionRun.{seat_there, written_since}
+use Rattle.ddf_rebuild_command.proofs.PositionRun.{seat_there}
 use Rattle.ddf_history_steps.proofs.Entering.{admitted_still, kept_still}
 use Rattle.ddf_group_commands.proofs.LeftWriting.{writing_since}
+use Rattle.ddf_write_commands.proofs.Sparing.{written_since}
 
 module _ {D : Type 0} (tells : Type 0) (entry start new : BayState D) (reads : ReadsOnly entry start) (writes_rise : (slot : ℕ) → entry.failed_writes slot ≤ start.failed_writes slot)
     (found : GroupValue) (timestamp : ℕ) (word : List ℕ) (fit : SeatsFit entry.sizes found.seats) (first : List Step) (opens : GoesOpening tells start new found first) where
@@ -117,7 +117,7 @@ module _ {D : Type 0} (tells : Type 0) (entry start new : BayState D) (reads : R
     are_asked = asked;
     is_seat = fault.0;
     there = seat_there entry.sizes found.seats fit slot fault.0;
-    rose = rose_later (entry.failed_writes slot) (start.failed_writes slot) (new.failed_writes slot) (writes_rise slot) fault.1;
+    rose = rose_since (entry.failed_writes slot) (start.failed_writes slot) (new.failed_writes slot) (writes_rise slot) fault.1;
   })
   open_fault steps asked Memory fault = absurd fault
   open_fault steps asked (Refused refusal) fault = absurd fault

@@ -1,6 +1,6 @@
 -- What is planned of a position that goes back, and the steps of its group that were readied for it.
-use Rattle.std.proofs.Common.{◌≡◌, ◌∙◌, ℕ, zero, suc, ◌+◌, ◌<◌, ◌≤◌, ◌==◌, Bool, true, false, not, ◌||◌, cond, List, [], ◌∷◌, ◌++◌, append-nil, length, Option, Some, None, Result, Ok, Err, nat_eq, inr, refl, sym, ap, subst, arith}
-use Rattle.std.proofs.lemmas.Bool.{eq-eqb, eqb-true, false≢true, le-leb, ltb-false}
+use Rattle.std.proofs.Common.{◌≡◌, ◌∙◌, ℕ, ◌+◌, ◌<◌, ◌≤◌, ◌==◌, Bool, true, false, not, ◌||◌, cond, List, [], ◌∷◌, ◌++◌, append-nil, length, Option, Some, None, Result, Ok, Err, nat_eq, inr, refl, sym, ap, subst, arith}
+use Rattle.std.proofs.lemmas.Bool.{eq-eqb, eqb-true, false≢true, le-leb, ltb-false, or_parts}
 use Rattle.std.specs.Prelude.{find, min, nat_le, nat_lt, option_and_then, option_map, slice_get, if◌then◌else◌}
 use Rattle.std.specs.List.{AllByRecursion, list_any}
 use Rattle.std.specs.Map.{lookup}
@@ -25,6 +25,8 @@ use Rattle.ddf_repair.specs.Choose.{array_room, part_room, room_for}
 use Rattle.ddf_config.specs.Room.{least_start_of}
 use Rattle.ddf_repair.specs.Spares.{extent_on, taken_on}
 use Rattle.std.proofs.lemmas.Option.{slice_get-map}
+use Rattle.ddf_lemmas.proofs.Lists.{mapped_at, none_any}
+use Rattle.ddf_lemmas.proofs.Options.{ok_is}
 use Rattle.ddf_repair.proofs.Begins.{free_on}
 use Rattle.ddf_repair.proofs.Rooms.{IsRoom, room_is}
 use Rattle.ddf_plan.specs.Create.{element_strip}
@@ -40,15 +42,12 @@ use Rattle.ddf_data_group.proofs.Free.{aside}
 use Rattle.ddf_data_group.proofs.Lessened.{slot_ends}
 use Rattle.ddf_rebuild_command.proofs.TargetCells.{floor_found}
 use Rattle.ddf_array.proofs.Consistent.{to_flat}
-use Rattle.ddf_array.proofs.Losses.{mapped_at}
 use Rattle.ddf_request.specs.Slots.{is_on, reference_on, slot_refusals}
 use Rattle.ddf_request.specs.Usable.{lies_on}
 use Rattle.ddf_config.specs.Seats.{SeatsFit, floor_of, slot_of}
 use Rattle.ddf_plan.specs.Members.{lost_by}
 use Rattle.ddf_array.specs.Apart.{IsApart}
 use Rattle.ddf_array.specs.Viewing.{is_array_within, seat_slot, view_of}
-use Rattle.ddf_array.specs.Volume.{IsVolume, Volume}
-use Rattle.ddf_array.proofs.Usable.{complete, shapes}
 use Rattle.ddf_array.specs.Within.{is_within}
 use Rattle.ddf_array.proofs.Apart.{view_apart}
 use Rattle.ddf_array.proofs.Told.{told_within}
@@ -79,7 +78,6 @@ use Rattle.ddf_answer.specs.Costs.{WritesAtMost}
 use Rattle.ddf_recovery.specs.Ready.{all_ready}
 use Rattle.ddf_group_commands.specs.Costs.{ready_sectors, steps_sectors}
 use Rattle.ddf_group_commands.proofs.Costs.{ready_count}
-use Rattle.ddf_write_commands.proofs.OnePlan.{same_ok}
 use Rattle.ddf_rebuild_command.specs.BackPlanned.{IsBackPlanned}
 use Rattle.ddf_rebuild_command.specs.BackRun.{AsksGoingBack}
 use Rattle.ddf_rebuild_command.specs.CopiedBack.{CostsOfGoingBack}
@@ -89,15 +87,18 @@ use Rattle.ddf_rebuild_command.specs.GoingBack.{copyback_asked, copyback_changes
 use Rattle.ddf_rebuild_command.specs.Standing.{KeepSeats, recovery_in}
 use Rattle.ddf_rebuild_command.proofs.BackChosen.{IsBackAt, is_chosen}
 use Rattle.ddf_rebuild_command.proofs.BackFits.{IsBackFor}
-use Rattle.ddf_rebuild_command.proofs.PlanFitted.{are_seats, none_of_both, within_by}
+use Rattle.ddf_rebuild_command.proofs.PlanFitted.{are_seats, within_by}
 use Rattle.ddf_rebuild_command.proofs.PlanKept.{HasFirst, all_readied, config_first, first_readied, has_first}
 use Rattle.ddf_rebuild_command.proofs.Positions.{IsHeld, element_there}
 use Rattle.ddf_rebuild_command.proofs.SeatsKept.{LosesNone, seats_kept}
 use Rattle.ddf_rebuild_command.proofs.Steps.{return_steps}
 use Rattle.ddf_rebuild_command.proofs.Views.{IsAt, is_at}
 use Rattle.ddf_bay.specs.State.{BayState}
+use Rattle.ddf_plan.proofs.Afters.{last_pass}
 use Rattle.ddf_seats.specs.Seated.{seated}
+use Rattle.ddf_steps.proofs.Common.{same_steps}
 use Rattle.ddf_history_steps.specs.BlockFloors.{AreFloored, floor_in}
+use Rattle.ddf_data_group.proofs.Common.{view_over}
 use Rattle.ddf_group_commands.specs.GroupRead.{IsReadFrom}
 use Rattle.ddf_rebuild_command.specs.Opened.{CanOpen}
 
@@ -133,23 +134,14 @@ module _ (config : Configuration) (seats : List Seat) (linux : List ℕ) (guid :
 
 -- ---- the position isn't on that disk
 
-halves : (a b : Bool) → (a || b) ≡ false → (a ≡ false) × (b ≡ false)
-halves true b e = absurd (false≢true (sym e))
-halves false b e = (refl, e)
-
-none_of : {X : Type 0} (test : X → Bool) (xs : List X) (k : ℕ) (x : X) → list_any test xs ≡ false → slice_get xs k ≡ Some x → test x ≡ false
-none_of test [] k x none at = absurd cc
-none_of test (one ∷ xs) zero x none at = let same : one ≡ x = cc in ap test (sym same) ∙ (halves (test one) (list_any test xs) none).0
-none_of test (one ∷ xs) (suc k) x none at = none_of test xs k x (halves (test one) (list_any test xs) none).1 at
-
 pub not_there : (config : Configuration) (guid : List ℕ) (linux : List ℕ) (slot reference element position : ℕ) (held : Position) (before : IsHeld config guid element position held)
     → first_refusal (disk_refusals config linux before.array slot reference) ≡ None → held.reference ≡ reference → ⊥
 not_there config guid linux slot reference element position held before free same =
     let taken = neither (is_taken config before.array reference) (is_misread_on linux before.array reference) slot free in
-    let off = (halves (is_spare_disk config reference) (lies_on (array_extents before.array) reference) taken).1 in
+    let off = (or_parts (is_spare_disk config reference) (lies_on (array_extents before.array) reference) taken).1 in
     let at = to_flat part_extents before.array.elements element position (Some before.plan) (extent before.plan.blocks held) (element_there before.array element before.plan before.is_plan)
     (mapped_at (extent before.plan.blocks) before.plan.positions position held before.is_held) in
-    let none = none_of (λ (one : Extent). one.reference == reference) (array_extents before.array) at.0 (extent before.plan.blocks held) off at.1 in
+    let none = none_any (λ (one : Extent). one.reference == reference) (array_extents before.array) at.0 (extent before.plan.blocks held) off at.1 in
     false≢true (sym none ∙ eq-eqb held.reference reference same)
 
 -- ---- the room
@@ -212,22 +204,6 @@ slot_found (first ∷ seats) slot any = by (first.slot == slot) refl any (slot_f
     by true e some rest = (first, refl, eqb-true first.slot slot e)
     by false e some rest = rest some
 
--- A view is of an array over its seats.
-view_over : (config : Configuration) (guid : List ℕ) (seats : List Seat) (v : Volume) → IsVolume v → (e : view_of config guid seats ≡ Ok v) → IsOver seats (from_view config guid seats v e).array v
-view_over config guid seats v known e =
-    let view = from_view config guid seats v e in
-    record {
-      tiers_are = view.tiers_are;
-      parts_are = view.parts_are;
-      marked_is = view.marked_is;
-      is_volume = known;
-      complete = complete config.members seats (extents config.arrays) guid view.array view.usable;
-      shapes = shapes config.members seats (extents config.arrays) guid view.array view.usable;
-    }
-
-same_steps : (behind : List Step) → ◌≡◌ {A = Result (List Step) Refusal} (Ok []) (Ok behind) → [] ≡ behind
-same_steps behind e = cc
-
 -- ---- all that is planned
 
 module _ (found : GroupValue) (count : ℕ) (word : List ℕ) (slot : ℕ) (plan : GoingBack) (timestamp : ℕ) (is : IsBackPlanOf count (config_recovered found) found.seats (linux_members found) word slot plan)
@@ -288,14 +264,14 @@ module _ (found : GroupValue) (count : ℕ) (word : List ℕ) (slot : ℕ) (plan
   unmarked : is_marked entry.1 ≡ false
   unmarked =
       unmarked_by (is_array_within found.seats entry.1) (is_marked entry.1)
-      (none_of_both (array_refusals Reads config found.seats entry.0 entry.1 0 0) (refuse_if (not (is_array_within found.seats entry.1)) Lost ∷ refuse_if (is_marked entry.1) Marked ∷ [])
-      (none_of_both (slot_refusals count found.seats (slot ∷ [])) (rebuild_refusals config found.seats entry) is.accepted))
+      (last_pass (array_refusals Reads config found.seats entry.0 entry.1 0 0) (refuse_if (not (is_array_within found.seats entry.1)) Lost ∷ refuse_if (is_marked entry.1) Marked ∷ [])
+      (last_pass (slot_refusals count found.seats (slot ∷ [])) (rebuild_refusals config found.seats entry) is.accepted))
 
   within : is_array_within found.seats entry.1 ≡ true
   within =
       within_by (is_array_within found.seats entry.1) (is_marked entry.1)
-      (none_of_both (array_refusals Reads config found.seats entry.0 entry.1 0 0) (refuse_if (not (is_array_within found.seats entry.1)) Lost ∷ refuse_if (is_marked entry.1) Marked ∷ [])
-      (none_of_both (slot_refusals count found.seats (slot ∷ [])) (rebuild_refusals config found.seats entry) is.accepted))
+      (last_pass (array_refusals Reads config found.seats entry.0 entry.1 0 0) (refuse_if (not (is_array_within found.seats entry.1)) Lost ∷ refuse_if (is_marked entry.1) Marked ∷ [])
+      (last_pass (slot_refusals count found.seats (slot ∷ [])) (rebuild_refusals config found.seats entry) is.accepted))
 
   module _ (ready : ReadyValue) (was : WasReadied found (plan.change ∷ []) timestamp ready) where
     tried : steps_from timestamp None (plan.change ∷ []) config (disks_recovered timestamp found) ≡ Ok (steps_in ready.steps)
@@ -492,7 +468,7 @@ module _ (found : GroupValue) (count : ℕ) (word : List ℕ) (slot : ℕ) (plan
       costs_back asks =
           let whole = back_planned entry_state.sizes counted fit in
           let part = goes.is_here.part in
-          let same : steps_in (all_ready ready) ≡ recovery_in ready.recovery ++ one.0.step ∷ [] = same_ok (sym was.is_readied ∙ all_steps) in
+          let same : steps_in (all_ready ready) ≡ recovery_in ready.recovery ++ one.0.step ∷ [] = ok_is (sym was.is_readied ∙ all_steps) in
           let steps = ready_count found (plan.change ∷ []) timestamp ready was ∙ ap steps_sectors same in
           inr (record {
             plan = whole;

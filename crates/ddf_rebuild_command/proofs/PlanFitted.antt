@@ -1,23 +1,22 @@
 -- The rows of a position that is planned to be filled can be filled: its array is within its level, its extents lie apart, and the rows rise.
-use Rattle.std.proofs.Common.{◌≡◌, ◌∙◌, ℕ, zero, suc, ◌<◌, ◌≤◌, Bool, true, false, not, List, [], ◌∷◌, ◌++◌, min, Option, Some, None, Ok, refl, sym, ap, subst, arith}
+use Rattle.std.proofs.Common.{◌≡◌, ◌∙◌, ℕ, ◌<◌, ◌≤◌, Bool, true, false, not, List, [], ◌∷◌, ◌++◌, min, Some, None, Ok, refl, sym, ap, subst, arith}
 use Rattle.std.specs.Prelude.{slice_get}
 use Rattle.std.specs.List.{AllByRecursion}
 use Rattle.std.specs.Map.{lookup}
-use Rattle.std.specs.Option.{option_or}
+use Rattle.ddf_lemmas.proofs.Tests.{min_le}
 use Rattle.ddf_config.specs.declared.array.Array.{Array}
 use Rattle.ddf_config.specs.declared.member.Member.{Member}
-use Rattle.ddf_config.specs.declared.refusal.Refusal.{Refusal}
 use Rattle.ddf_config.specs.declared.refusal.Refusal.TheVariants.{Lost, Marked}
 use Rattle.ddf_config.specs.declared.seat.Seat.{Seat}
 use Rattle.ddf_config.specs.Configuration.{Configuration}
 use Rattle.ddf_config.specs.Members.{is_current, same_guid}
 use Rattle.ddf_config.specs.Refusals.{first_refusal, refuse_if}
 use Rattle.ddf_config.specs.States.{is_marked}
-use Rattle.ddf_config.proofs.Firsts.{first_append}
 use Rattle.ddf_plan.specs.declared.change.Change.{Change}
 use Rattle.ddf_plan.specs.declared.change.Change.TheVariants.{Begin}
 use Rattle.ddf_plan.specs.Changes.{changed_at}
 use Rattle.ddf_plan.specs.Members.{members_after}
+use Rattle.ddf_plan.proofs.Afters.{last_pass}
 use Rattle.ddf_repair.specs.declared.first.Target.{Target}
 use Rattle.ddf_array.specs.declared.part.Part.{Part}
 use Rattle.ddf_array.specs.Apart.{AreSeats, IsApart}
@@ -26,7 +25,6 @@ use Rattle.ddf_array.specs.Within.{is_within}
 use Rattle.ddf_array.proofs.Apart.{view_apart}
 use Rattle.ddf_array.proofs.Told.{told_within}
 use Rattle.ddf_rebuild.specs.Target.{row_count}
-use Rattle.ddf_rewrite.proofs.Lists.{all_at}
 use Rattle.ddf_seats.specs.Changing.{SlotsRise}
 use Rattle.ddf_read_commands.specs.declared.using.Access.TheVariants.{Reads}
 use Rattle.ddf_read_commands.specs.Use.{array_refusals}
@@ -47,6 +45,7 @@ use Rattle.ddf_rebuild_command.proofs.SeatsKept.{still_current}
 use Rattle.ddf_rebuild_command.proofs.SpareViews.{still_rows, still_within}
 use Rattle.ddf_rebuild_command.proofs.Targets.{is_again, is_fresh_at}
 use Rattle.ddf_read_commands.proofs.ArrayUse.{named_is}
+use Rattle.ddf_write_commands.proofs.PlanKept.{rise_apart}
 
 -- A position can be filled over these seats.
 pub record CanFill (config : Configuration) (seats : List Seat) (entry : Entry) (filling : Filling) : Type 0 where
@@ -56,21 +55,6 @@ pub record CanFill (config : Configuration) (seats : List Seat) (entry : Entry) 
   pub all_rows : (part : Part) → slice_get filling.view.parts filling.target.element ≡ Some part → rows_in entry.1 filling.target.element ≡ row_count part.shape
 
 -- ---- seats
-
--- No slot has two seats.
-rise_apart : (seats : List Seat) → SlotsRise seats → (j k : ℕ) (one other : Seat) → slice_get seats j ≡ Some one → slice_get seats k ≡ Some other → one.slot ≡ other.slot → one.reference ≡ other.reference
-rise_apart [] rise j k one other at there same = absurd cc
-rise_apart (first ∷ seats) rise zero zero one other at there same =
-    let here : one ≡ other = cc in ap (λ (seat : Seat). seat.reference) here
-rise_apart (first ∷ seats) rise zero (suc k) one other at there same =
-    let here : first ≡ one = cc in
-    let less = all_at (λ (seat : Seat). first.slot < seat.slot) seats k other rise.0 there in
-    absurd (omega (arith, less, same, ap (λ (seat : Seat). seat.slot) here))
-rise_apart (first ∷ seats) rise (suc j) zero one other at there same =
-    let here : first ≡ other = cc in
-    let less = all_at (λ (seat : Seat). first.slot < seat.slot) seats j one rise.0 at in
-    absurd (omega (arith, less, same, ap (λ (seat : Seat). seat.slot) here))
-rise_apart (first ∷ seats) rise (suc j) (suc k) one other at there same = rise_apart seats rise.1 j k one other at there same
 
 pub are_seats : (members : List (ℕ × Member)) (seats : List Seat) → ((k : ℕ) (seat : Seat) → slice_get seats k ≡ Some seat → is_current members seat.reference ≡ true) → SlotsRise seats → AreSeats members seats
 are_seats members seats current rise = record {
@@ -87,21 +71,11 @@ rise_to end from low (row ∷ rows) rise below some most =
     let within = below.0 in
     (omega (arith, less, some), rise_to end row row rows rise.1 below.1 (omega arith) (omega (arith, within)))
 
-pub least : (kept end : ℕ) → (min kept end ≤ kept) × (min kept end ≤ end)
-least kept end = (omega arith, omega arith)
-
 -- ---- what the refusals tell
 
 pub within_by : (within marked : Bool) → first_refusal (refuse_if (not within) Lost ∷ refuse_if marked Marked ∷ []) ≡ None → within ≡ true
 within_by true marked none = refl
 within_by false marked none = absurd cc
-
-pub none_of_both : (xs ys : List (Option Refusal)) → first_refusal (xs ++ ys) ≡ None → first_refusal ys ≡ None
-none_of_both xs ys none = by (first_refusal xs) refl
-  where
-    by : (first : Option Refusal) → first_refusal xs ≡ first → first_refusal ys ≡ None
-    by None e = sym (first_append xs ys ∙ ap (λ (r : Option Refusal). option_or r (first_refusal ys)) e) ∙ none
-    by (Some refusal) e = let is = sym (first_append xs ys ∙ ap (λ (r : Option Refusal). option_or r (first_refusal ys)) e) ∙ none in absurd cc
 
 -- ---- a plan
 
@@ -125,12 +99,12 @@ module _ (config : Configuration) (seats : List Seat) (linux : List ℕ) (word :
   within : is_array_within seats entry.1 ≡ true
   within =
       within_by (is_array_within seats entry.1) (is_marked entry.1)
-      (none_of_both (array_refusals Reads config seats entry.0 entry.1 0 0) (refuse_if (not (is_array_within seats entry.1)) Lost ∷ refuse_if (is_marked entry.1) Marked ∷ []) is.accepted)
+      (last_pass (array_refusals Reads config seats entry.0 entry.1 0 0) (refuse_if (not (is_array_within seats entry.1)) Lost ∷ refuse_if (is_marked entry.1) Marked ∷ []) is.accepted)
 
   rises : RiseTo (rows_in entry.1 target.element) filling.from filling.rows
   rises =
       let end = rows_in entry.1 target.element in
-      let low = least fills.kept end in
+      let low = min_le fills.kept end in
       subst (RiseTo end filling.from) (sym fills.rows_are)
       (subst (λ (n : ℕ). RiseTo end n (notes fills.kept end ++ end ∷ [])) (sym fills.from_is)
       (rise_to end (min fills.kept end) fills.kept (notes fills.kept end) (notes_rise fills.kept end) (notes_below fills.kept end) low.0 low.1))

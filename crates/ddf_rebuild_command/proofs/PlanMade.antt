@@ -1,10 +1,11 @@
 -- How it is planned how an array is rebuilt, or why it isn't.
 use Rattle.std.proofs.Common.{◌≡◌, ◌∙◌, ℕ, ◌<◌, ◌≤◌, ◌^◌, Bool, true, false, not, List, [], ◌∷◌, ◌++◌, length, min, Option, Some, None, Result, Ok, Err, refl, sym, ap, subst, arith}
-use Rattle.std.specs.Prelude.{option_map, option_and_then, slice_get, slice_index_or}
+use Rattle.std.specs.Prelude.{slice_get, slice_index_or}
 use Rattle.std.specs.List.{AllByRecursion, IsDistinct}
 use Rattle.std.specs.Map.{keys_of, lookup}
 use Rattle.std.specs.Option.{option_or}
 use Rattle.std.proofs.lemmas.Option.{get_or_from_slice_get}
+use Rattle.ddf_lemmas.proofs.Options.{some_is}
 use Rattle.ddf_config.specs.declared.array.Array.{Array}
 use Rattle.ddf_config.specs.declared.element.Position.{Position}
 use Rattle.ddf_config.specs.declared.refusal.Refusal.{Refusal}
@@ -33,7 +34,7 @@ use Rattle.ddf_array.proofs.Told.{told_within}
 use Rattle.ddf_array.proofs.Viewed.{from_view}
 use Rattle.ddf_rebuild.specs.Target.{row_count}
 use Rattle.ddf_steps.specs.Asked.{CanBeAsked}
-use Rattle.ddf_request.specs.Named.{named_array, with_array}
+use Rattle.ddf_request.specs.Named.{named_array}
 use Rattle.ddf_answer.specs.declared.failure.Failure.{Failure}
 use Rattle.ddf_answer.specs.declared.failure.Failure.TheVariants.{Conflict, Disk, Memory, Refused, Split}
 use Rattle.ddf_read_commands.specs.declared.using.Access.TheVariants.{Reads}
@@ -52,9 +53,6 @@ use Rattle.ddf_rebuild_command.proofs.Begun.{fresh_marked, fresh_there, fresh_vi
 use Rattle.ddf_read_commands.proofs.ArrayUse.{named_is}
 
 -- ---- small things
-
-some_is : {A : Type 0} {one other : A} → ◌≡◌ {A = Option A} (Some one) (Some other) → one ≡ other
-some_is e = cc
 
 -- what is read at a place
 pub read_at : {X : Type 0} (xs ys : List X) (i k : ℕ) (x y : X) → xs ≡ ys → i ≡ k → x ≡ slice_index_or xs i x → slice_get ys k ≡ Some y → x ≡ y
@@ -234,19 +232,6 @@ module _ (config : Configuration) (seats : List Seat) (aside : List ℕ) (guid :
               subst (λ (one : Change). CanBeAsked one) (sym fresh.change_is) (subst (λ (one : Change). FitsBegin one) fresh.change_is fits)
 
 -- ---- an array that a word names
-
--- An array that a word names is the one of its GUID.
-named_by : (arrays : List (List ℕ × Array)) (guid : List ℕ) (entry : Entry) (found : Option Array) → lookup (same_guid guid) arrays ≡ found
-    → option_map (λ array. (guid, array)) found ≡ Some entry → lookup (same_guid entry.0) arrays ≡ Some entry.1
-named_by arrays guid entry None is e = absurd cc
-named_by arrays guid entry (Some array) is e =
-    let same : (guid, array) ≡ entry = cc in
-    subst (λ (one : Entry). lookup (same_guid one.0) arrays ≡ Some one.1) same is
-
-named_in : (arrays : List (List ℕ × Array)) (entry : Entry) (guid : Option (List ℕ)) → option_and_then (with_array arrays) guid ≡ Some entry
-    → lookup (same_guid entry.0) arrays ≡ Some entry.1
-named_in arrays entry None e = absurd cc
-named_in arrays entry (Some guid) e = named_by arrays guid entry (lookup (same_guid guid) arrays) refl e
 
 abbrev pub more : (within marked : Bool) → List (Option Refusal)
 more within marked = refuse_if (not within) Lost ∷ refuse_if marked Marked ∷ []

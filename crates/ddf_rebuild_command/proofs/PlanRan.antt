@@ -1,6 +1,7 @@
 -- A rebuild that was planned of a group, readied and run.
 use Rattle.std.proofs.Common.{◌≡◌, ℕ, ◌≤◌, List, [], ◌+◌, ◌++◌, map, Option, None, Some, Result, Ok, refl, ap, subst, sym, ◌∙◌, inl, inr}
 use Rattle.std.specs.Prelude.{option_to_list, slice_get}
+use Rattle.ddf_lemmas.proofs.Options.{ok_is}
 use Rattle.ddf_bay.specs.ReadsOnly.{ReadsOnly}
 use Rattle.ddf_bay.specs.Sectors.{Image}
 use Rattle.ddf_bay.specs.State.{BayState}
@@ -29,7 +30,6 @@ use Rattle.ddf_group_commands.specs.Requests.{linux_members}
 use Rattle.ddf_group_commands.proofs.Costs.{readied_costs, ready_count, recovery_within}
 use Rattle.ddf_group_commands.proofs.StepsWritten.{steps_in}
 use Rattle.ddf_write_commands.specs.Opened.{AreMembers}
-use Rattle.ddf_write_commands.proofs.OnePlan.{same_ok}
 use Rattle.ddf_rebuild_command.specs.declared.planning.Filling.{Filling}
 use Rattle.ddf_rebuild_command.specs.declared.planning.Plan.{Plan}
 use Rattle.ddf_rebuild_command.specs.Asked.{changes_behind, rebuild_request, rows_in}
@@ -138,7 +138,7 @@ module _ (found : GroupValue) (word : List ℕ) (plan : Plan) (timestamp : ℕ) 
         (subst (λ (target : Target). AsksFrom filling.view target (first_row fills)) (sym for.target_is)
         (subst (λ (from : ℕ). AsksFrom filling.view filling.target from) (sym for.from_is) asks)) in
         let rows = sectors_from part.shape (first_row fills) in
-        let same : steps_in (all_ready ready) ≡ fills.first ++ steps_of fills.rounds = same_ok (sym for.was.is_readied ∙ fills.are_readied) in
+        let same : steps_in (all_ready ready) ≡ fills.first ++ steps_of fills.rounds = ok_is (sym for.was.is_readied ∙ fills.are_readied) in
         let count = ready_count found (fills.before ++ changes_behind fills.entry fills.target fills.kept) timestamp ready for.was ∙ ap steps_sectors same in
         inr (inr (record {
           plan = fills;

@@ -1,15 +1,15 @@
 -- A rebuild of a position since the entry of its call: its group is read, the first steps are written, and then the rounds are done.
 use Rattle.std.proofs.Common.{◌≡◌, ℕ, ◌+◌, ◌<◌, ◌≤◌, Bool, true, false, List, [], ◌++◌, length, take, Option, Ok, Err, refl, sym, ap, subst, ◌∙◌, inl, inr, ⊎_elim, arith}
 use Rattle.std.proofs.Math.Seq.{take-length}
+use Rattle.ddf_lemmas.proofs.Lists.{in_map}
 use Rattle.ddf_bay.specs.Moments.{StopsLeave}
 use Rattle.ddf_bay.specs.ReadsOnly.{ReadsOnly}
 use Rattle.ddf_bay.specs.Sectors.{Image, IsLeft}
 use Rattle.ddf_bay.specs.State.{BayState}
-use Rattle.ddf_bay.proofs.Steps.{stops_then, stops_weaken}
+use Rattle.ddf_bay.proofs.Steps.{stops_then, stops_weaken, rose_since}
 use Rattle.ddf_config.specs.declared.seat.Seat.{Seat}
 use Rattle.ddf_config.specs.Configuration.{Configuration}
 use Rattle.ddf_config.specs.Seats.{SeatsFit}
-use Rattle.ddf_rewrite.proofs.Lists.{map_get}
 use Rattle.ddf_update.specs.Group.{IsOneOf}
 use Rattle.ddf_read.specs.Reading.{Failed}
 use Rattle.ddf_history.specs.Groups.{groups}
@@ -26,7 +26,6 @@ use Rattle.ddf_history_steps.specs.Steps.{StandsReady}
 use Rattle.ddf_answer.specs.declared.failure.Failure.{Failure}
 use Rattle.ddf_answer.specs.declared.failure.Failure.TheVariants.{Conflict, Disk, Memory, Refused, Split}
 use Rattle.ddf_answer.specs.Call.{Work, work_of}
-use Rattle.ddf_answer.proofs.Rises.{rose_later}
 use Rattle.ddf_group_commands.specs.Change.{last_sequence}
 use Rattle.ddf_group_commands.specs.GroupRead.{IsFoundBy}
 use Rattle.ddf_group_commands.specs.Others.{LeavesOthers}
@@ -50,16 +49,13 @@ use Rattle.ddf_rebuild_command.proofs.RoundsMore.{left_more, none_left_more, rou
 use Rattle.ddf_rebuild_command.proofs.Writings.{last_then}
 use Rattle.ddf_history_steps.proofs.Entering.{admitted_still, kept_still}
 use Rattle.ddf_group_commands.proofs.LeftWriting.{writing_since}
+use Rattle.ddf_write_commands.proofs.Sparing.{written_since}
 
 -- ---- since the entry of a call that read its group
 
-pub written_since : {D : Type 0} (entry start : BayState D) → ReadsOnly entry start → (steps : List Step) (image : Image) → AreWritten start.sizes start.held steps image
-    → AreWritten entry.sizes entry.held steps image
-written_since entry start reads steps image written = rw (reads.same_sizes, reads.same_held) at written
-
 pub seat_there : (sizes : List ℕ) (seats : List Seat) → SeatsFit sizes seats → (slot : ℕ) → IsOneOf (slots_of seats) slot → slot < length sizes
 seat_there sizes seats fit slot one =
-    let seat = map_get (λ (each : Seat). each.slot) seats one.place slot one.is_there in
+    let seat = in_map (λ (each : Seat). each.slot) seats one.place slot one.is_there in
     subst (λ (n : ℕ). n < length sizes) seat.2 (fit one.place seat.0 seat.1).0
 
 module _ {D : Type 0} (tells : Type 0) (entry start mid new : BayState D) (reads : ReadsOnly entry start) (reads_rise : (slot : ℕ) → entry.failed_reads slot ≤ start.failed_reads slot)
@@ -79,7 +75,7 @@ module _ {D : Type 0} (tells : Type 0) (entry start mid new : BayState D) (reads
 
   since_entry : (slot : ℕ) → Failed mid new slot → Failed entry new slot
   since_entry slot failed =
-      rose_later (entry.failed_reads slot) (mid.failed_reads slot) (new.failed_reads slot) (let one = reads_rise slot in let other = opens.goes.reads_rise slot in omega (arith, one, other)) failed
+      rose_since (entry.failed_reads slot) (mid.failed_reads slot) (new.failed_reads slot) (let one = reads_rise slot in let other = opens.goes.reads_rise slot in omega (arith, one, other)) failed
 
   sizes_mid : mid.sizes ≡ entry.sizes
   sizes_mid = opens.goes.same_sizes ∙ reads.same_sizes
@@ -283,7 +279,7 @@ module _ {D : Type 0} (tells : Type 0) (entry start mid new : BayState D) (reads
         are_asked = plan.are_asked;
         is_seat = seat;
         there = seat_there entry.sizes found.seats fit slot seat;
-        rose = rose_later (entry.failed_writes slot) (mid.failed_writes slot) (new.failed_writes slot) (let one = writes_rise slot in let other = opens.goes.writes_rise slot in omega (arith, one, other)) wrote;
+        rose = rose_since (entry.failed_writes slot) (mid.failed_writes slot) (new.failed_writes slot) (let one = writes_rise slot in let other = opens.goes.writes_rise slot in omega (arith, one, other)) wrote;
       }))
       (λ none. inr (record {
         plan = plan;

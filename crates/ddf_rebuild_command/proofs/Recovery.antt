@@ -36,7 +36,7 @@ use Rattle.ddf_group_commands.specs.Change.{last_sequence}
 use Rattle.ddf_group_commands.specs.GroupRead.{IsFoundBy}
 use Rattle.ddf_group_commands.specs.Writing.{IsLeftWriting}
 use Rattle.ddf_group_commands.specs.Written.{AreWritten}
-use Rattle.ddf_group_commands.proofs.Beside.{recovery_beside}
+use Rattle.ddf_group_commands.proofs.Beside.{recovery_beside, not_among}
 use Rattle.ddf_group_commands.proofs.Keeping.{reads_true}
 use Rattle.ddf_group_commands.proofs.LeftWriting.{left_still, says_one, step_leaves}
 use Rattle.ddf_group_commands.proofs.Recovering.{first_lies, slots_there}
@@ -46,7 +46,7 @@ use Rattle.ddf_rebuild_command.specs.Opened.{CanOpen, GoesOpening, IsOpened}
 use Rattle.ddf_rebuild_command.specs.Standing.{AddsNothing, KeepSeats, Stands, recovery_in}
 use Rattle.ddf_rebuild_command.proofs.Coming.{over_goes}
 use Rattle.ddf_rebuild_command.proofs.SeatsKept.{recovered_seats}
-use Rattle.ddf_rebuild_command.proofs.NextStep.{left_at_end, not_among}
+use Rattle.ddf_rebuild_command.proofs.NextStep.{left_at_end}
 
 -- ---- the step of a recovery
 

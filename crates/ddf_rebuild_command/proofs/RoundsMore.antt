@@ -4,6 +4,7 @@ use Rattle.std.proofs.Math.Nat.{mul-le-mul_right}
 use Rattle.std.proofs.Math.Path.{fun_ext}
 use Rattle.std.proofs.lemmas.Option.{slice_get_within}
 use Rattle.std.specs.Prelude.{Some}
+use Rattle.ddf_lemmas.proofs.Lists.{in_map}
 use Rattle.ddf_bay.specs.Moments.{IsSettled}
 use Rattle.ddf_bay.specs.Sectors.{Image}
 use Rattle.ddf_bay.specs.State.{BayState}
@@ -12,7 +13,6 @@ use Rattle.ddf_array.specs.Volume.{Volume}
 use Rattle.ddf_config.specs.declared.seat.Seat.{Seat}
 use Rattle.ddf_rebuild.specs.Rebuilding.{NoneLeftInRows}
 use Rattle.ddf_repair.specs.declared.first.Target.{Target}
-use Rattle.ddf_rewrite.proofs.Lists.{map_get}
 use Rattle.ddf_read.proofs.Tries.{NotRead-wider}
 use Rattle.ddf_cells.specs.CellSources.{cell_sources}
 use Rattle.ddf_cells.proofs.GivenSteps.{wanted_wider}
@@ -68,7 +68,7 @@ holding_more one other slots adds image s l bytes = ⊎_elim inl (λ left. inr (
 settled_at : {D : Type 0} (disks : BayState D) (found : GroupValue) → HoldsGroup disks found → (s : ℕ) → is_slot (slots_of found.seats) s ≡ true → IsSettled disks.may_hold disks.held s
 settled_at disks found holds s is =
     let place = slot_placed (slots_of found.seats) s is in
-    let seat = map_get (λ (one : Seat). one.slot) found.seats place.0 s place.1 in
+    let seat = in_map (λ (one : Seat). one.slot) found.seats place.0 s place.1 in
     subst (λ (slot : ℕ). IsSettled disks.may_hold disks.held slot) seat.2
     (holds.are_settled place.0 seat.0 (slice_get_within found.seats place.0 seat.0 seat.1) seat.1)
 

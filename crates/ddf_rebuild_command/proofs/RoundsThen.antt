@@ -1,10 +1,11 @@
 -- A round of a rebuild and those behind it.
 use Rattle.std.proofs.Common.{◌≡◌, ℕ, zero, suc, ◌≤◌, Bool, true, false, List, [], ◌∷◌, take, refl, sym, ap, subst, ◌∙◌, inl, inr, ⊎_elim, arith}
 use Rattle.std.proofs.lemmas.Bool.{false≢true}
+use Rattle.ddf_bytes.proofs.Common.{rose_behind}
 use Rattle.ddf_bay.specs.Moments.{Keeps, StopsLeave}
 use Rattle.ddf_bay.specs.Sectors.{Image}
 use Rattle.ddf_bay.specs.State.{BayState}
-use Rattle.ddf_bay.proofs.Steps.{stops_start, stops_then, stops_weaken}
+use Rattle.ddf_bay.proofs.Steps.{stops_start, stops_then, stops_weaken, rose_since}
 use Rattle.ddf_array.specs.Volume.{Volume}
 use Rattle.ddf_cells.specs.Touching.{GoesBetween}
 use Rattle.ddf_config.specs.declared.seat.Seat.{Seat}
@@ -22,7 +23,6 @@ use Rattle.ddf_history_steps.specs.Kept.{is_slot}
 use Rattle.ddf_history_steps.specs.Steps.{StandsReady}
 use Rattle.ddf_answer.specs.declared.failure.Failure.{Failure}
 use Rattle.ddf_answer.specs.declared.failure.Failure.TheVariants.{Conflict, Disk, Memory, Refused, Split}
-use Rattle.ddf_answer.proofs.Rises.{rose_later, rose_still}
 use Rattle.ddf_group_commands.specs.Change.{last_sequence}
 use Rattle.ddf_group_commands.specs.Others.{LeavesOthers}
 use Rattle.ddf_write_commands.proofs.Arrays.{goes_then}
@@ -183,10 +183,10 @@ module _ {D : Type 0} (tells : Type 0) (old middle new : BayState D) (tells_midd
   all = round ∷ rest
 
   before_new : (slot : ℕ) → Failed old middle slot → Failed old new slot
-  before_new slot failed = rose_still (old.failed_reads slot) (middle.failed_reads slot) (new.failed_reads slot) (first.goes.reads_rise slot) (last.goes.reads_rise slot) failed
+  before_new slot failed = rose_behind (old.failed_reads slot) (middle.failed_reads slot) (new.failed_reads slot) (first.goes.reads_rise slot) (last.goes.reads_rise slot) failed
 
   since_old : (slot : ℕ) → Failed middle new slot → Failed old new slot
-  since_old slot failed = rose_later (old.failed_reads slot) (middle.failed_reads slot) (new.failed_reads slot) (first.goes.reads_rise slot) failed
+  since_old slot failed = rose_since (old.failed_reads slot) (middle.failed_reads slot) (new.failed_reads slot) (first.goes.reads_rise slot) failed
 
   first_done : tells → AreRounds (Failed old new) new.tells_left old.sizes volume target from old.held (round ∷ []) middle.held
   first_done told = rounds_more (Failed old middle) (Failed old new) before_new middle.tells_left new.tells_left last.told volume target old.sizes from old.held (round ∷ []) middle.held (filled.are_done told)
@@ -304,7 +304,7 @@ module _ {D : Type 0} (tells : Type 0) (old middle new : BayState D) (tells_midd
       → IsFillFault tells old new volume target from all found ready end failure
   fault_behind le end (Disk slot) fault = (
     subst (λ (seats : List Seat). IsOneOf (slots_of seats) slot) filled.same_seats fault.0,
-    ⊎_elim (λ wrote. inl (rose_later (old.failed_writes slot) (middle.failed_writes slot) (new.failed_writes slot) (first.goes.writes_rise slot) wrote))
+    ⊎_elim (λ wrote. inl (rose_since (old.failed_writes slot) (middle.failed_writes slot) (new.failed_writes slot) (first.goes.writes_rise slot) wrote))
         (λ none. inr (none_left_more (Failed middle new) (Failed old new) since_old volume target.element target.position round.row end from end slot le (omega arith) none))
         fault.1,
   )

@@ -30,7 +30,7 @@ use Rattle.ddf_group_commands.specs.Others.{LeavesOthers}
 use Rattle.ddf_group_commands.specs.Requests.{linux_found, linux_members}
 use Rattle.ddf_group_commands.proofs.Beside.{reads_beside}
 use Rattle.ddf_group_commands.proofs.Keeping.{reads_keep}
-use Rattle.ddf_group_commands.proofs.Outcomes.{group_read, memory_told, unsynced_in, where_done}
+use Rattle.ddf_group_commands.proofs.Outcomes.{group_read, memory_told, unsynced_in, where_done, found_same}
 use Rattle.ddf_write_commands.specs.Plans.{IsNotReadied}
 use Rattle.ddf_rebuild_command.specs.Along.{ComesAlong}
 use Rattle.ddf_rebuild_command.specs.Asked.{rebuild_request}
@@ -39,6 +39,7 @@ use Rattle.ddf_rebuild_command.specs.Planned.{IsIdle, IsPlanned}
 use Rattle.ddf_rebuild_command.specs.Plans.{MayPlan}
 use Rattle.ddf_rebuild_command.specs.Rebuilt.{GoesAlong, HasRebuiltArray, IsRebuiltIn, IsRebuiltOf, LeavesRebuilding, MayBeLeft}
 use Rattle.ddf_rebuild_command.proofs.Costs.{none_cost}
+use Rattle.ddf_rebuild_command.proofs.BackCame.{steps_same}
 
 -- What came of a group that was read, since the entry.
 pub record HasRun {D : Type 0} (tells : Type 0) (entry start new : BayState D) (found : GroupValue) (timestamp : ℕ) (word : List ℕ) (outcome : Result ℕ Failure) : Type 0 where
@@ -51,12 +52,6 @@ pub record HasRun {D : Type 0} (tells : Type 0) (entry start new : BayState D) (
   pub keeps : tells → (left : List Bool) (named : Option (List ℕ)) → IsFoundBy start left named found → KeepsHistories entry new left found steps (is_done outcome)
   pub along : tells → (left : List Bool) (named : Option (List ℕ)) → IsFoundBy start left named found → (group : List ℕ) → found.config.group ≡ group → (past : Past (groups group)) → AreAllKept group past entry
       → IsAdmitted group past entry left found → IsIdle found timestamp word ⊎ ((plan : IsPlanned found timestamp word) × ComesAlong group (work_of tells entry new) past left found plan (is_done outcome))
-
-found_same : (one other : GroupValue) → ◌≡◌ {A = Result GroupValue Assembly} (Ok one) (Ok other) → one ≡ other
-found_same one other is = cc
-
-steps_same : (one other : List Step) → ◌≡◌ {A = Result (List Step) Failure} (Ok one) (Ok other) → one ≡ other
-steps_same one other is = cc
 
 -- ---- nothing was done
 

@@ -3,6 +3,7 @@ use Rattle.std.proofs.Common.{◌≡◌, ◌∙◌, ℕ, Bool, true, false, not,
 use Rattle.std.specs.Prelude.{option_map, slice_get}
 use Rattle.std.specs.List.{AllByRecursion}
 use Rattle.std.specs.Map.{lookup}
+use Rattle.ddf_lemmas.proofs.Lists.{mapped_at}
 use Rattle.ddf_config.specs.declared.member.Member.{Member}
 use Rattle.ddf_config.specs.declared.refusal.Refusal.{Refusal}
 use Rattle.ddf_config.specs.declared.seat.Seat.{Seat}
@@ -14,7 +15,6 @@ use Rattle.ddf_plan.specs.Lose.{is_among}
 use Rattle.ddf_plan.specs.Members.{lost_by, member_after, members_after}
 use Rattle.ddf_plan.specs.Same.{is_step}
 use Rattle.ddf_rewrite.specs.Before.{before}
-use Rattle.ddf_rewrite.proofs.Lists.{get_map}
 use Rattle.ddf_seats.specs.declared.seated.Seated.{Seated}
 use Rattle.ddf_recovery.specs.Committed.{WasReadied, group_recovered}
 use Rattle.ddf_seats.specs.Group.{GroupValue}
@@ -68,7 +68,7 @@ module _ (timestamp : ℕ) (seats : List Seat) where
   step_keeps config disks change none members same =
       seats_stay timestamp (before (views_in disks)) (config_after config change) disks
       (λ k disk at.
-      let seat : slice_get seats k ≡ Some disk.seat = ap (λ (all : List Seat). slice_get all k) (sym same) ∙ get_map (λ (one : Seated). one.seat) disks k disk at in
+      let seat : slice_get seats k ≡ Some disk.seat = ap (λ (all : List Seat). slice_get all k) (sym same) ∙ mapped_at (λ (one : Seated). one.seat) disks k disk at in
       still_current config change none disk.seat.reference ∙ members k disk.seat seat)
       ∙ same
 
@@ -109,7 +109,7 @@ module _ (found : GroupValue) (changes : List Change) (timestamp : ℕ) (ready :
     where
       stay : some found.absent ≡ true → (k : ℕ) (disk : Seated) → slice_get (seated found) k ≡ Some disk → stays_in (config_lost found) disk ≡ true
       stay absent k disk at =
-          let seat : slice_get found.seats k ≡ Some disk.seat = ap (λ (seats : List Seat). slice_get seats k) (sym was.assembled.are_seated) ∙ get_map (λ (one : Seated). one.seat) (seated found) k disk at in
+          let seat : slice_get found.seats k ≡ Some disk.seat = ap (λ (seats : List Seat). slice_get seats k) (sym was.assembled.are_seated) ∙ mapped_at (λ (one : Seated). one.seat) (seated found) k disk at in
           subst (λ (b : Bool). is_current (if b then config_lost found else found.config).members disk.seat.reference ≡ true) absent (members k disk.seat seat)
 
       lost : (b : Bool) → some found.absent ≡ b → (if b then seats_in one.step.disks else found.seats) ≡ found.seats

@@ -1,12 +1,13 @@
 -- Once a group is recovered each current member has a seat.
 use Rattle.std.proofs.Common.{◌≡◌, ◌∙◌, ℕ, zero, suc, ◌<◌, Bool, true, false, not, ◌||◌, cond, eqb, List, [], ◌∷◌, length, map, Option, Some, None, Ok, nat_eq, refl, sym, ap, subst, if◌then◌else◌, zero-add}
-use Rattle.std.proofs.lemmas.Bool.{and_from, eq-eqb, eqb-true, false≢true, or_left, or_right}
+use Rattle.std.proofs.lemmas.Bool.{and_from, eq-eqb, eqb-true, false≢true}
 use Rattle.std.proofs.lemmas.Map.Entries.{place_from_lookup}
 use Rattle.std.proofs.lemmas.Option.{slice_get_within}
 use Rattle.std.specs.Prelude.{filter, filter_map, find, is_some, option_map, slice_get, unwrap_or}
 use Rattle.std.specs.List.{list_any}
 use Rattle.std.specs.Map.{lookup}
 use Rattle.std.specs.Option.{option_map_or}
+use Rattle.ddf_lemmas.proofs.Lists.{filtered_passes, get_filter_map, mapped_at}
 use Rattle.ddf_copy.specs.declared.copy.DiskCopy.{DiskCopy}
 use Rattle.ddf_copy.specs.declared.newest_copy.Newest.{Newest}
 use Rattle.ddf_config.specs.declared.member.Member.{Member}
@@ -23,26 +24,18 @@ use Rattle.ddf_group.specs.declared.shown.Shown.TheVariants.{Nothing}
 use Rattle.ddf_group.specs.Assembled.{absent, assembled_as, has_reference, is_absent}
 use Rattle.ddf_group.specs.Shown.{shown_of}
 use Rattle.ddf_group.specs.Slots.{claimed, claims, numbers, slot_at, view_in}
-use Rattle.ddf_rewrite.proofs.AllWanted.{get_filter_map}
-use Rattle.ddf_rewrite.proofs.Lists.{get_map, get_range}
+use Rattle.ddf_rewrite.proofs.Lists.{get_range}
 use Rattle.ddf_seats.specs.Group.{GroupValue, copy_at, seat_at, seat_of}
 use Rattle.ddf_assembly.specs.Group.{group_of}
 use Rattle.ddf_recovery.specs.Recovery.{config_lost, config_recovered}
 use Rattle.ddf_seats.specs.Leading.{some}
-use Rattle.ddf_assembly.proofs.LeftBefore.{kept_at}
 use Rattle.ddf_history_steps.proofs.Begun.{IsMadeOf, found_named}
-use Rattle.ddf_history_steps.proofs.Filtered.{any_kept, passes_kept}
+use Rattle.ddf_history_steps.proofs.Filtered.{any_kept}
 use Rattle.ddf_history_steps.proofs.Seats.{absent_are, copy_there, group_made}
+use Rattle.ddf_history_steps.proofs.Claimed.{listed_among}
 use Rattle.ddf_rebuild_command.specs.Plans.{HaveSeats}
 
 -- ---- lists
-
-among_there : (references : List ℕ) (place reference : ℕ) → slice_get references place ≡ Some reference → is_among references reference ≡ true
-among_there [] place reference at = absurd cc
-among_there (first ∷ references) zero reference at =
-    let same : first ≡ reference = cc in
-    or_left (nat_eq reference first) (is_among references reference) (eq-eqb reference first (sym same))
-among_there (first ∷ references) (suc place) reference at = or_right (nat_eq reference first) (is_among references reference) (among_there references place reference at)
 
 found_there : (seats : List Seat) (place reference : ℕ) (seat : Seat) → slice_get seats place ≡ Some seat → seat.reference ≡ reference → is_some (floor_of seats reference) ≡ true
 found_there [] place reference seat at same = absurd cc
@@ -116,9 +109,9 @@ module _ (newest : List (Option Newest)) (named : Option (List ℕ)) (g : GroupV
           let passes : is_absent slots seated_slots (entry.1, member) ≡ true =
           and_from (not member.missing) (not (list_any (has_reference slots entry.1) seated_slots)) (ap not here)
           (ap (λ (n : ℕ). not (list_any (has_reference slots n) seated_slots)) key ∙ ap not e) in
-          let kept = kept_at (is_absent slots seated_slots) g.config.members entry.0 (entry.1, member) entry.2 passes in
-          let listed = get_map (λ (one : ℕ × Member). one.0) (filter (is_absent slots seated_slots) g.config.members) kept.0 (entry.1, member) kept.1 in
-          let among = among_there (absent slots seated_slots g.config.members) kept.0 entry.1 listed in
+          let kept = filtered_passes (is_absent slots seated_slots) g.config.members entry.0 (entry.1, member) entry.2 passes in
+          let listed = mapped_at (λ (one : ℕ × Member). one.0) (filter (is_absent slots seated_slots) g.config.members) kept.0 (entry.1, member) kept.1 in
+          let among = listed_among (absent slots seated_slots g.config.members) kept.0 entry.1 listed in
           absurd (false≢true (sym there ∙ subst (λ (n : ℕ). is_among g.absent n ≡ true) key (subst (λ (all : List ℕ). is_among all entry.1 ≡ true) (sym (absent_are newest own g made)) among)))
 
   -- what a slot shows that has a reference
@@ -148,7 +141,7 @@ module _ (newest : List (Option Newest)) (named : Option (List ℕ)) (g : GroupV
   seat_there : (slot : ℕ) (view : View) (copy : DiskCopy) → claims slots own slot ≡ true → view_in (slot_at slots slot) ≡ Some view → copy_at newest slot ≡ Some copy
       → (place : ℕ) × (slice_get g.seats place ≡ Some (seat_of slot copy))
   seat_there slot view copy claimed at has =
-      let kept = passes_kept (claims slots own) (numbers slots) slot slot (number_at slot (within slot view at)) claimed in
+      let kept = filtered_passes (claims slots own) (numbers slots) slot slot (number_at slot (within slot view at)) claimed in
       let seat = get_filter_map (seat_at newest) seated_slots kept.0 slot (seat_of slot copy) kept.1 (ap (option_map (seat_of slot)) has) in
       (seat.0, subst (λ (seats : List Seat). slice_get seats seat.0 ≡ Some (seat_of slot copy)) (sym seats_are) seat.1)
 

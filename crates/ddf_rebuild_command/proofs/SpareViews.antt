@@ -1,11 +1,11 @@
 -- An array whose position gets a spare: it is within its level where it was, and the rows of the position are as many.
-use Rattle.std.proofs.Common.{◌≡◌, ◌∙◌, ℕ, suc, ◌+◌, Bool, true, false, not, ◌&&◌, ◌||◌, ◌==◌, List, [], ◌∷◌, length, map, count_by, nat_eq, nat_le, Option, Some, Ok, refl, sym, ap, subst, arith, if◌then◌else◌}
+use Rattle.std.proofs.Common.{◌≡◌, ◌∙◌, ℕ, ◌+◌, Bool, true, false, ◌&&◌, ◌==◌, List, length, map, nat_eq, nat_le, Option, Some, Ok, refl, sym, ap, subst, arith, if◌then◌else◌}
 use Rattle.std.proofs.lemmas.Bool.{eqb-true}
 use Rattle.std.proofs.lemmas.List.{length-map}
 use Rattle.std.proofs.lemmas.List.FromFn.{length-enumerate_from}
-use Rattle.std.proofs.lemmas.List.Sums.{sum_by-cons}
 use Rattle.std.specs.Prelude.{is_some, option_map, slice_get}
-use Rattle.std.specs.List.{enumerate_from, list_all, list_any}
+use Rattle.std.specs.List.{enumerate_from}
+use Rattle.ddf_lemmas.proofs.Lists.{numbered_same}
 use Rattle.ddf_primary.specs.Needs.{need_of}
 use Rattle.ddf_config.specs.declared.element.Position.{Position}
 use Rattle.ddf_config.specs.declared.seat.Seat.{Seat}
@@ -14,6 +14,7 @@ use Rattle.ddf_config.specs.ElementValue.{ElementValue}
 use Rattle.ddf_config.specs.Seats.{floor_of}
 use Rattle.ddf_config.specs.Shapes.{element_shape}
 use Rattle.ddf_config.specs.Within.{has_enough, has_enough_parts, is_mirrored, is_part_within}
+use Rattle.ddf_config.proofs.Common.{enough_parts}
 use Rattle.ddf_plan.specs.declared.change.Change.{Change}
 use Rattle.ddf_plan.specs.declared.change.Change.TheVariants.{Begin}
 use Rattle.ddf_plan.specs.Standing.{takes_revertible}
@@ -32,40 +33,6 @@ use Rattle.ddf_rebuild_command.proofs.Positions.{IsHeld, array_after_is, begins,
 use Rattle.ddf_rebuild_command.proofs.Steps.{held_begun}
 use Rattle.ddf_rebuild_command.proofs.Views.{IsAt, is_at, rows_by}
 use Rattle.ddf_array.proofs.Told.{enough_map}
-
--- ---- lists of answers
-
-any_map : {X : Type 0} (test : X → Bool) (xs : List X) → list_any test xs ≡ list_any (λ b. b) (map test xs)
-any_map test [] = refl
-any_map test (x ∷ xs) = ap (λ (b : Bool). test x || b) (any_map test xs)
-
-all_map : {X : Type 0} (test : X → Bool) (xs : List X) → list_all test xs ≡ list_all (λ b. b) (map test xs)
-all_map test [] = refl
-all_map test (x ∷ xs) = ap (λ (b : Bool). test x && b) (all_map test xs)
-
-count_map : {X : Type 0} (test : X → Bool) (xs : List X) → count_by (λ x. not (test x)) xs ≡ count_by (λ b. not b) (map test xs)
-count_map test [] = refl
-count_map test (x ∷ xs) =
-    sum_by-cons (λ y. if not (test y) then 1 else 0) x xs ∙ ap (λ (n : ℕ). (if not (test x) then 1 else 0) + n) (count_map test xs)
-    ∙ sym (sum_by-cons (λ b. if not b then 1 else 0) (test x) (map test xs))
-
--- a level asks only which positions are available
-enough_parts : {X : Type 0} (mirrored : Bool) (test : X → Bool) (xs ys : List X) → map test xs ≡ map test ys → has_enough_parts mirrored test xs ≡ has_enough_parts mirrored test ys
-enough_parts true test xs ys same = any_map test xs ∙ ap (list_any (λ b. b)) same ∙ sym (any_map test ys)
-enough_parts false test xs ys same = all_map test xs ∙ ap (list_all (λ b. b)) same ∙ sym (all_map test ys)
-
--- where items are made of others by their numbers, and each has the answer of the one that it is made of
-numbered_same : {X : Type 0} (test : X → Bool) (made : (ℕ × X) → X) (from : ℕ) (xs : List X) → ((k : ℕ) (x : X) → slice_get xs k ≡ Some x → test (made (from + k, x)) ≡ test x)
-    → map test (map made (enumerate_from from xs)) ≡ map test xs
-numbered_same test made from [] same = refl
-numbered_same {X = X} test made from (x ∷ xs) same =
-    let first : from + 0 ≡ from = omega arith in
-    ap (λ (b : Bool). b ∷ map test (map made (enumerate_from (from + 1) xs))) (ap (λ (n : ℕ). test (made (n, x))) (sym first) ∙ same 0 x refl)
-    ∙ ap (λ (rest : List Bool). test x ∷ rest)
-    (numbered_same test made (from + 1) xs (λ k one at. ap (λ (n : ℕ). test (made (n, one))) (moved k) ∙ same (suc k) one at))
-  where
-    moved : (k : ℕ) → (from + 1) + k ≡ from + suc k
-    moved k = omega arith
 
 -- ---- the array behind the change
 

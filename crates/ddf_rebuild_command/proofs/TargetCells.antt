@@ -1,5 +1,5 @@
 -- The cells of a position lie below the floors of a group's seats, and all that a rebuild reads and writes is on slots of these.
-use Rattle.std.proofs.Common.{◌≡◌, ℕ, zero, suc, ◌<◌, ◌≤◌, ◌==◌, Bool, true, false, cond, eqb, List, [], ◌∷◌, Some, Ok, refl, sym, ap, subst, ◌∙◌, arith}
+use Rattle.std.proofs.Common.{◌≡◌, ℕ, zero, suc, ◌<◌, ◌≤◌, Bool, true, false, cond, eqb, List, [], ◌∷◌, Some, Ok, refl, sym, ap, subst, ◌∙◌, arith}
 use Rattle.std.proofs.lemmas.Bool.{eq-eqb, eqb-true, false≢true}
 use Rattle.std.specs.Prelude.{find, option_map, slice_get, unwrap_or}
 use Rattle.ddf_primary.proofs.ShapeFacts.{depth_le}
@@ -16,11 +16,8 @@ use Rattle.ddf_steps.specs.Committed.{slots_of}
 use Rattle.ddf_seats.specs.Changing.{SlotsRise}
 use Rattle.ddf_history_steps.specs.Kept.{is_slot}
 use Rattle.ddf_history_steps.specs.BlockFloors.{floor_in}
-use Rattle.ddf_write_commands.proofs.BelowFloors.{floor_slot}
+use Rattle.ddf_write_commands.proofs.BelowFloors.{floor_slot, on_slot}
 use Rattle.ddf_write_commands.proofs.SlotsThere.{cell_source_there, on_seats}
-
-abbrev on_slot : ℕ → Seat → Bool
-on_slot slot seat = seat.slot == slot
 
 -- Where the slots of seats rise each seat is the one of its slot.
 pub floor_found : (seats : List Seat) → SlotsRise seats → (place : ℕ) (seat : Seat) → slice_get seats place ≡ Some seat → floor_in seats seat.slot ≡ seat.floor

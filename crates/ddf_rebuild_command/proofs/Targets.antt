@@ -1,6 +1,6 @@
 -- The position that a rebuild is of: the first of its array that is out of sync, where it is or on a spare.
 use Rattle.std.proofs.Common.{◌≡◌, ◌∙◌, ℕ, suc, ◌+◌, Bool, true, false, not, ◌&&◌, cond, List, [], ◌∷◌, ◌++◌, length, Option, Some, None, Result, Ok, Err, find, refl, sym, ap, subst, arith}
-use Rattle.std.proofs.lemmas.Bool.{and_parts, false≢true}
+use Rattle.std.proofs.lemmas.Bool.{and_parts, not-true}
 use Rattle.std.specs.Prelude.{is_some, slice_get}
 use Rattle.std.specs.List.{enumerate_from}
 use Rattle.std.specs.Map.{lookup}
@@ -72,10 +72,6 @@ record IsFirstIn (from : ℕ) (parts : List (Option ElementValue)) (at : Spot) :
   is_out : held.synced ≡ false
   same_reference : at.2 ≡ held.reference
 
-not_true : (b : Bool) → not b ≡ true → b ≡ false
-not_true true e = absurd (false≢true e)
-not_true false e = refl
-
 later_first : (from : ℕ) (part : Option ElementValue) (parts : List (Option ElementValue)) (at : Spot) → IsFirstIn (from + 1) parts at → IsFirstIn from (part ∷ parts) at
 later_first from part parts at is = record {
   place = suc is.place;
@@ -109,7 +105,7 @@ first_in elements from (Some plan ∷ parts) at h = by (out_in plan) refl (first
           is_plan = refl;
           held = one.1;
           is_held = ap (slice_get plan.positions) (sym place) ∙ found.there;
-          is_out = not_true one.1.synced found.passes;
+          is_out = not-true one.1.synced found.passes;
           same_reference = ap (λ (p : Spot). p.2) (sym same);
         }
 

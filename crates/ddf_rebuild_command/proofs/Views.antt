@@ -1,12 +1,14 @@
 -- Where a view has the positions of its array.
 use Rattle.std.proofs.Common.{◌≡◌, ◌∙◌, ◌⊎◌, ⊎_elim, inl, inr, ℕ, zero, suc, ◌+◌, ◌-◌, ◌*◌, ◌/◌, ◌≤◌, ◌^◌, Bool, true, false, ◌||◌, List, [], ◌∷◌, ◌++◌, length, map, Option, Some, None, Ok, refl, sym, ap, subst, arith, if◌then◌else◌}
-use Rattle.std.proofs.lemmas.Bool.{and_parts, false≢true, le-leb, leb-true, ltb-false}
+use Rattle.std.proofs.lemmas.Bool.{and_parts, false≢true, le-leb, leb-true, ltb-false, or_parts}
 use Rattle.std.proofs.lemmas.List.{length-map}
 use Rattle.std.proofs.lemmas.Option.{slice_get-map}
 use Rattle.std.proofs.Math.Nat.{div-le_of_le-mul, mul-le-mul_right, mul-suc}
 use Rattle.std.specs.Prelude.{filter_map, is_some, nat_le, nat_lt, option_and_then, option_map, slice_get}
 use Rattle.std.specs.Map.{lookup}
 use Rattle.std.specs.List.{cons_option, flat_map, list_all, list_any}
+use Rattle.ddf_lemmas.proofs.Lists.{none_any}
+use Rattle.ddf_lemmas.proofs.Options.{some_from_is_some}
 use Rattle.ddf_primary.specs.Cells.{depth_of, height_of}
 use Rattle.ddf_primary.specs.Levels.{least_blocks}
 use Rattle.ddf_primary.specs.Placement.{Placement}
@@ -35,14 +37,6 @@ use Rattle.ddf_rebuild_command.proofs.Positions.{IsHeld, element_there}
 
 -- ---- elements that are all known
 
-known_is : (part : Option ElementValue) → is_some part ≡ true → (plan : ElementValue) × (part ≡ Some plan)
-known_is None e = absurd (false≢true e)
-known_is (Some plan) e = (plan, refl)
-
-shape_is : (shape : Option Placement) → is_some shape ≡ true → (one : Placement) × (shape ≡ Some one)
-shape_is None e = absurd (false≢true e)
-shape_is (Some one) e = (one, refl)
-
 module _ (seats : List Seat) (elements : ℕ) where
   abbrev whole : ElementValue → Placement → Part
   whole plan shape = record { shape = shape; places = map (place_of seats plan.blocks) plan.positions }
@@ -62,14 +56,14 @@ module _ (seats : List Seat) (elements : ℕ) where
   shown_at (None ∷ known) all shaped number plan at = absurd (false≢true all)
   shown_at (Some one ∷ known) all shaped zero plan at =
       let same : one ≡ plan = cc in
-      let own = shape_is (element_shape elements one) (and_parts (is_some (element_shape elements one)) (list_all (has_shape elements) known) shaped).0 in
+      let own = some_from_is_some (element_shape elements one) (and_parts (is_some (element_shape elements one)) (list_all (has_shape elements) known) shaped).0 in
       subst (IsShown (Some one ∷ known) 0) same (record {
         shape = own.0;
         is_shape = own.1;
         is_part = ap (λ (first : Option Part). slice_get (cons_option first (filter_map (known_part seats elements) known)) 0) (made_of one own.0 own.1);
       })
   shown_at (Some one ∷ known) all shaped (suc number) plan at =
-      let own = shape_is (element_shape elements one) (and_parts (is_some (element_shape elements one)) (list_all (has_shape elements) known) shaped).0 in
+      let own = some_from_is_some (element_shape elements one) (and_parts (is_some (element_shape elements one)) (list_all (has_shape elements) known) shaped).0 in
       let rest = shown_at known all (and_parts (is_some (element_shape elements one)) (list_all (has_shape elements) known) shaped).1 number plan at in
       record {
         shape = rest.shape;
@@ -83,24 +77,15 @@ module _ (seats : List Seat) (elements : ℕ) where
   all_shown (None ∷ known) all shaped = absurd (false≢true all)
   all_shown (Some one ∷ known) all shaped =
       let parts = and_parts (is_some (element_shape elements one)) (list_all (has_shape elements) known) shaped in
-      let own = shape_is (element_shape elements one) parts.0 in
+      let own = some_from_is_some (element_shape elements one) parts.0 in
       ap (λ (first : Option Part). length (cons_option first (filter_map (known_part seats elements) known))) (made_of one own.0 own.1) ∙ ap suc (all_shown known all parts.1)
 
 -- ---- extents below the floors
 
-either_false : (a b : Bool) → (a || b) ≡ false → (a ≡ false) × (b ≡ false)
-either_false true b e = absurd (false≢true (sym e))
-either_false false b e = (refl, e)
-
-none_of : {X : Type 0} (test : X → Bool) (xs : List X) (k : ℕ) (x : X) → list_any test xs ≡ false → slice_get xs k ≡ Some x → test x ≡ false
-none_of test [] k x none at = absurd cc
-none_of test (one ∷ xs) zero x none at = let same : one ≡ x = cc in ap test (sym same) ∙ (either_false (test one) (list_any test xs) none).0
-none_of test (one ∷ xs) (suc k) x none at = none_of test xs k x (either_false (test one) (list_any test xs) none).1 at
-
 any_joined : {X : Type 0} (test : X → Bool) (xs ys : List X) → list_any test (xs ++ ys) ≡ false → (list_any test xs ≡ false) × (list_any test ys ≡ false)
 any_joined test [] ys none = (refl, none)
 any_joined test (x ∷ xs) ys none =
-    let first = either_false (test x) (list_any test (xs ++ ys)) none in
+    let first = or_parts (test x) (list_any test (xs ++ ys)) none in
     let rest = any_joined test xs ys first.1 in
     (ap (λ (b : Bool). b || list_any test xs) first.0 ∙ rest.0, rest.1)
 
@@ -164,7 +149,7 @@ module _ (config : Configuration) (guid : List ℕ) (seats : List Seat) (volume 
 
     below : passes_floor seats (extent before.plan.blocks held) ≡ false
     below =
-        none_of (passes_floor seats) (map (extent before.plan.blocks) before.plan.positions) position (extent before.plan.blocks held)
+        none_any (passes_floor seats) (map (extent before.plan.blocks) before.plan.positions) position (extent before.plan.blocks held)
         (none_in (passes_floor seats) known element before.plan (below_floors config.members seats (extents config.arrays) guid view.array view.usable) there)
         (slice_get-map (extent before.plan.blocks) before.plan.positions position ∙ ap (option_map (extent before.plan.blocks)) before.is_held)
 

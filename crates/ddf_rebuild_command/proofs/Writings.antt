@@ -1,7 +1,7 @@
 -- Steps that are written one after another, and what a stop leaves on the way of all.
-use Rattle.std.proofs.Common.{◌≡◌, ℕ, zero, suc, List, [], ◌∷◌, ◌++◌, refl, sym, ap, subst, ◌∙◌, inl, inr, ⊎_elim}
+use Rattle.std.proofs.Common.{◌≡◌, ℕ, List, [], ◌∷◌, ◌++◌, refl, sym, ap, subst, ◌∙◌, inl, inr, ⊎_elim}
 use Rattle.std.proofs.Math.Path.{fun_ext}
-use Rattle.std.specs.Prelude.{Some, slice_get}
+use Rattle.ddf_lemmas.proofs.Lists.{first_get, in_second}
 use Rattle.ddf_bay.specs.Sectors.{Image, IsLeft}
 use Rattle.ddf_bay.specs.State.{BayState, size_of}
 use Rattle.ddf_view.specs.View.{View, view_of}
@@ -15,24 +15,13 @@ use Rattle.ddf_group_commands.proofs.LeftWriting.{ShowsFrom, writing_by}
 use Rattle.ddf_seats.specs.Group.{floor_of}
 use Rattle.ddf_seats.specs.declared.seated.Seated.{Seated}
 
--- ---- lists
-
-in_first : {X : Type 0} (xs ys : List X) (k : ℕ) (x : X) → slice_get xs k ≡ Some x → slice_get (xs ++ ys) k ≡ Some x
-in_first [] ys k x at = absurd cc
-in_first (first ∷ xs) ys zero x at = at
-in_first (first ∷ xs) ys (suc k) x at = in_first xs ys k x at
-
-in_last : {X : Type 0} (xs ys : List X) (k : ℕ) (x : X) → slice_get ys k ≡ Some x → (n : ℕ) × (slice_get (xs ++ ys) n ≡ Some x)
-in_last [] ys k x at = (k, at)
-in_last (first ∷ xs) ys k x at = let later = in_last xs ys k x at in (suc later.0, later.1)
-
 -- ---- more steps
 
 on_first : (steps more : List Step) (slot : ℕ) → IsWrittenOn steps slot → IsWrittenOn (steps ++ more) slot
 on_first steps more slot on = record {
   number = on.number;
   step = on.step;
-  is_step = in_first steps more on.number on.step on.is_step;
+  is_step = first_get steps more on.number on.step on.is_step;
   place = on.place;
   disk = on.disk;
   is_disk = on.is_disk;
@@ -41,7 +30,7 @@ on_first steps more slot on = record {
 
 on_last : (steps more : List Step) (slot : ℕ) → IsWrittenOn more slot → IsWrittenOn (steps ++ more) slot
 on_last steps more slot on =
-    let at = in_last steps more on.number on.step on.is_step in
+    let at = in_second steps more on.number on.step on.is_step in
     record { number = at.0; step = on.step; is_step = at.1; place = on.place; disk = on.disk; is_disk = on.is_disk; on_slot = on.on_slot }
 
 -- Where each slot that some steps write is one that others write too.

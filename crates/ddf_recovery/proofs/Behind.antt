@@ -1,13 +1,13 @@
 -- The configuration and the disks of a group behind its recovery.
 use Rattle.std.proofs.Common.{◌≡◌, ℕ, zero, suc, ◌<◌, ◌^◌, Bool, true, false, eqb, cond, List, [], ◌∷◌, map, filter, Option, Some, None, refl, sym, ap, subst, ◌∙◌, arith, if◌then◌else◌}
-use Rattle.std.proofs.lemmas.Bool.{eq-eqb, ne_eqb}
+use Rattle.std.proofs.lemmas.Bool.{eq-eqb, ne_eqb, cond-false, cond-true}
 use Rattle.std.specs.Prelude.{IfSome, find, option_map, slice_get}
 use Rattle.std.specs.List.{AllByRecursion}
 use Rattle.std.specs.Option.{option_map_or}
+use Rattle.ddf_lemmas.proofs.Lists.{map_alike, mapped_at}
 use Rattle.ddf_config.specs.declared.seat.Seat.{Seat}
 use Rattle.ddf_config.specs.Configuration.{Configuration}
-use Rattle.ddf_view.proofs.Finds.{when_false, when_true}
-use Rattle.ddf_rewrite.proofs.Lists.{all_at, get_map}
+use Rattle.ddf_rewrite.proofs.Lists.{all_at}
 use Rattle.ddf_seats.specs.declared.seated.Seated.{Seated}
 use Rattle.ddf_assembly.specs.Assembled.{IsAssembledGroup}
 use Rattle.ddf_steps.specs.Full.{full_of}
@@ -20,22 +20,16 @@ use Rattle.ddf_steps.specs.Steps.{Step}
 use Rattle.ddf_recovery.specs.Behind.{behind_written, config_behind, disks_behind}
 use Rattle.ddf_seats.specs.Changing.{CanBeChanged, SlotsRise}
 use Rattle.ddf_steps.specs.Trying.{Follows}
-use Rattle.ddf_steps.proofs.Following.{levelled_changed}
+use Rattle.ddf_steps.proofs.CommittedLevels.{changed_levelled}
 use Rattle.ddf_recovery.proofs.Mended.{mended_changed}
 use Rattle.ddf_recovery.proofs.Recovered.{config_kept, disks_kept}
 use Rattle.ddf_assembly.proofs.Settled.{settled}
 
 -- ---- lists
 
-none_some : {X : Type 0} (xs : List X) → some xs ≡ false → xs ≡ []
+pub none_some : {X : Type 0} (xs : List X) → some xs ≡ false → xs ≡ []
 none_some [] h = refl
 none_some (x ∷ xs) h = absurd cc
-
--- What is the same of each is the same of all.
-map_alike : {X Y : Type 0} (f g : X → Y) (xs : List X) → ((k : ℕ) (x : X) → slice_get xs k ≡ Some x → f x ≡ g x) → map f xs ≡ map g xs
-map_alike f g [] same = refl
-map_alike {Y = Y} f g (x ∷ xs) same =
-    ap (λ (y : Y). y ∷ map f xs) (same 0 x refl) ∙ ap (λ (ys : List Y). g x ∷ ys) (map_alike f g xs (λ k z at. same (suc k) z at))
 
 -- ---- written disks, by their slots
 
@@ -56,7 +50,7 @@ module _ (write : Seated → Seated) (same_seat : (disk : Seated) → (write dis
       by true rest =
           let slot_is : (write disk).seat.slot ≡ disk.seat.slot = ap (λ (seat : Seat). seat.slot) (same_seat disk) in
           let below = above.0 in
-          when_false (on slot (write disk)) (Some (write disk)) (find (on slot) (written disks)) (ne_eqb (write disk).seat.slot slot (λ e. omega (arith, slot_is, below, e))) ∙ rest
+          cond-false (on slot (write disk)) (Some (write disk)) (find (on slot) (written disks)) (ne_eqb (write disk).seat.slot slot (λ e. omega (arith, slot_is, below, e))) ∙ rest
 
   -- The disk on a slot is found where it was written.
   pub found_written : (disks : List Seated) → SlotsRise (seats_in disks) → (k : ℕ) (disk : Seated) → slice_get disks k ≡ Some disk
@@ -69,7 +63,7 @@ module _ (write : Seated → Seated) (same_seat : (disk : Seated) → (write dis
     where
       by : (b : Bool) → find (on first.seat.slot) (written disks) ≡ None
           → find (on first.seat.slot) (map write (cond b (first ∷ filter test disks) (filter test disks))) ≡ (if b then Some (write first) else None)
-      by true rest = when_true (on first.seat.slot (write first)) (Some (write first)) (find (on first.seat.slot) (written disks)) (eq-eqb (write first).seat.slot first.seat.slot (ap (λ (seat : Seat). seat.slot) (same_seat first)))
+      by true rest = cond-true (on first.seat.slot (write first)) (Some (write first)) (find (on first.seat.slot) (written disks)) (eq-eqb (write first).seat.slot first.seat.slot (ap (λ (seat : Seat). seat.slot) (same_seat first)))
       by false rest = rest
   found_written (first ∷ disks) rise (suc k) disk at = by (test first) (found_written disks rise.1 k disk at)
     where
@@ -77,9 +71,9 @@ module _ (write : Seated → Seated) (same_seat : (disk : Seated) → (write dis
           → find (on disk.seat.slot) (map write (cond b (first ∷ filter test disks) (filter test disks))) ≡ (if test disk then Some (write disk) else None)
       by false rest = rest
       by true rest =
-          let below = all_at (λ (seat : Seat). first.seat.slot < seat.slot) (seats_in disks) k disk.seat rise.0 (get_map (λ (one : Seated). one.seat) disks k disk at) in
+          let below = all_at (λ (seat : Seat). first.seat.slot < seat.slot) (seats_in disks) k disk.seat rise.0 (mapped_at (λ (one : Seated). one.seat) disks k disk at) in
           let slot_is : (write first).seat.slot ≡ first.seat.slot = ap (λ (seat : Seat). seat.slot) (same_seat first) in
-          when_false (on disk.seat.slot (write first)) (Some (write first)) (find (on disk.seat.slot) (written disks)) (ne_eqb (write first).seat.slot disk.seat.slot (λ e. omega (arith, slot_is, below, e))) ∙ rest
+          cond-false (on disk.seat.slot (write first)) (Some (write first)) (find (on disk.seat.slot) (written disks)) (ne_eqb (write first).seat.slot disk.seat.slot (λ e. omega (arith, slot_is, below, e))) ∙ rest
 
 -- ---- behind the recovery
 
@@ -109,7 +103,7 @@ module _ (timestamp : ℕ) (time : timestamp < 2 ^ 32) (group : GroupValue) (is 
         config_is = ap (λ (step : Step). step.config) same ∙ sym (ap (λ (b : Bool). if b then config_lost group else group.config) are);
         disks_are = disks_are ∙ ap (λ (step : Step). map levelled step.disks) same
             ∙ sym (ap (λ (b : Bool). if b then map levelled (lost_step timestamp group).disks else map (mended_or_kept timestamp group) (seated group)) are);
-        changed = subst (CanBeChanged one.step.config) (sym disks_are) (levelled_changed one.step.config one.step.disks follows.can_be_changed);
+        changed = subst (CanBeChanged one.step.config) (sym disks_are) (changed_levelled one.step.config one.step.disks follows.can_be_changed);
       }
 
   written_is : (k : ℕ) (disk : Seated) → slice_get (seated group) k ≡ Some disk → behind_written (mending_step timestamp group).disks disk ≡ mended_or_kept timestamp group disk

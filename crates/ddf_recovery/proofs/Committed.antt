@@ -3,6 +3,7 @@ use Rattle.std.proofs.Common.{◌≡◌, ℕ, zero, suc, ◌<◌, true, List, []
 use Rattle.std.proofs.lemmas.List.{length-map}
 use Rattle.std.specs.Prelude.{slice_get, slice_index}
 use Rattle.std.specs.List.{AllByRecursion}
+use Rattle.ddf_lemmas.proofs.Lists.{all_from, all_weaken, in_map, some_at_place}
 use Rattle.ddf_bay.specs.State.{BayState, size_of}
 use Rattle.ddf_bay.specs.Moments.{IsSettled}
 use Rattle.ddf_header.specs.declared.kind.Revision.TheVariants.{R200}
@@ -21,8 +22,7 @@ use Rattle.ddf_copy.proofs.LastCopies.{last_is}
 use Rattle.ddf_config.specs.declared.seat.Seat.{Seat}
 use Rattle.ddf_config.specs.Seats.{SeatsFit}
 use Rattle.ddf_config.specs.Configuration.{Configuration}
-use Rattle.ddf_view.proofs.Tests.{all_map}
-use Rattle.ddf_rewrite.proofs.Lists.{all_at, all_by_get, map_get}
+use Rattle.ddf_rewrite.proofs.Lists.{all_at}
 use Rattle.ddf_update.specs.declared.prepared.Mode.{Mode}
 use Rattle.ddf_update.specs.declared.prepared.Mode.TheVariants.{Adopt, Change, Found, Move}
 use Rattle.ddf_update.specs.Changes.{MayChangeAll, MayGet, SlotChange}
@@ -45,7 +45,7 @@ use Rattle.ddf_seats.specs.Changing.{IsOfGroup, SlotsRise}
 use Rattle.ddf_steps.specs.Committed.{HasPlacesOf, HaveSequence, HaveSlots, IsRewritten}
 use Rattle.ddf_recovery.specs.Committed.{HoldsGroup, IsReadyFor, MayWriteNext, next_slots, next_updates}
 use Rattle.ddf_recovery.proofs.CommittedCopies.{standing_is, standing_read, standing_sequence, standing_under}
-use Rattle.ddf_seats.proofs.CommittedSeats.{get_there, seated_is}
+use Rattle.ddf_seats.proofs.CommittedSeats.{seated_is}
 use Rattle.ddf_seats.proofs.Lists.{get_within}
 use Rattle.ddf_steps.proofs.Ordered.{order_all, order_differ, order_from}
 use Rattle.ddf_steps.proofs.Rewritten.{adopted_other, none_founded, none_moved, places_under}
@@ -64,7 +64,7 @@ pub record IsChange {D : Type 0} (disks : BayState D) (disk : Seated) (change : 
   pub has_new : change.new ≡ disk.copy
 
 -- a change for places where there is no disk
-no_copy : DiskCopy
+pub no_copy : DiskCopy
 no_copy = new_copy Small R200 (record { seconds = 0; salt = 0 }) [] 0
 
 pub no_change : SlotChange
@@ -126,7 +126,7 @@ module _ {D : Type 0} (state : BayState D) (group : GroupValue) (holds : HoldsGr
   -- the copies of the group's disks in a slot can stand there under its anchor
   seated_under : (slot : ℕ) (anchor : Header) → anchor_at (size_of state slot) (state.held slot) ≡ Ok anchor → StandOn slot (size_of state slot) anchor (seated group)
   seated_under slot anchor anchored =
-      all_by_get (λ (disk : Seated). disk.seat.slot ≡ slot → IsUnder (size_of state slot) anchor disk.copy) (seated group)
+      all_from (λ (disk : Seated). disk.seat.slot ≡ slot → IsUnder (size_of state slot) anchor disk.copy) (seated group)
       (λ k disk at here.
       let own = seated_is group k disk at in
       let found = subst (λ (n : ℕ). slice_get group.newest n ≡ Some (Some own.found)) here own.is_found in
@@ -197,12 +197,12 @@ module _ {D : Type 0} (state : BayState D) (group : GroupValue) (holds : HoldsGr
     pub may_change_all : MayChangeAll state (slots_in (in_order one.step.disks)) seat_of one.updates
     may_change_all = record {
       may_change = λ place slot at.
-          let there = map_get (λ (disk : Seated). disk.seat.slot) (in_order one.step.disks) place slot at in
+          let there = in_map (λ (disk : Seated). disk.seat.slot) (in_order one.step.disks) place slot at in
           let is = seat_is place there.0 there.1 in
           subst (λ (n : ℕ). MayGet (seat_of place).mode state n (seat_of place)) there.2 is.may_get;
       are_prepared = λ place update at.
           let below : place < length (in_order one.step.disks) = let within = get_within one.updates update place at in let counted = follows.are_prepared.counted in omega (arith, within, counted) in
-          let there = get_there (in_order one.step.disks) place below in
+          let there = some_at_place (in_order one.step.disks) place below in
           let is = seat_is place there.0 there.1 in
           let prepared = follows.are_prepared.each place there.0 update there.1 at in
           subst (λ (mode : Mode). IsPrepared (seat_of place).new (seat_of place).last mode update) (sym is.has_mode)
@@ -216,7 +216,7 @@ module _ {D : Type 0} (state : BayState D) (group : GroupValue) (holds : HoldsGr
 later_replace : (group : GroupValue) (one : ReadyStep) → HaveSequence group.config.sequence (seated group) → AllByRecursion (IsRewritten (seated group) one.step.config) one.step.disks
     → group.config.sequence < one.step.config.sequence → AllByRecursion (MayReplace group one.step.config) one.step.disks
 later_replace group one have_sequence rewrites rises =
-    all_map (IsRewritten (seated group) one.step.config) (MayReplace group one.step.config)
+    all_weaken (IsRewritten (seated group) one.step.config) (MayReplace group one.step.config)
     (λ disk is. record {
       rewrites = is;
       newer = λ changes found is_found stands old alike newest.
@@ -247,7 +247,7 @@ may_write_next state group ready holds is = steps_may state group ready.recovery
 module _ (sizes : List ℕ) (group : GroupValue) (have : HaveAnchors sizes group.newest) where
   -- the slot of each of the group's disks is there, and its copy can stand on it
   seated_placed : AllByRecursion (HasPlace sizes) (seated group)
-  seated_placed = all_by_get (HasPlace sizes) (seated group) (λ k disk at.
+  seated_placed = all_from (HasPlace sizes) (seated group) (λ k disk at.
       let own = seated_is group k disk at in
       let here = have disk.seat.slot own.found own.is_found in
       record { there = here.0; anchor = here.1.anchor; under = standing_under (slice_index sizes disk.seat.slot) here.1.anchor own.found disk.copy own.stands here.1.under })
@@ -260,13 +260,13 @@ module _ (sizes : List ℕ) (group : GroupValue) (have : HaveAnchors sizes group
       record {
         are_slots = record {
           there = λ place slot at.
-              let found = map_get (λ (disk : Seated). disk.seat.slot) written place slot at in
+              let found = in_map (λ (disk : Seated). disk.seat.slot) written place slot at in
               subst (λ (n : ℕ). n < length sizes) found.2 (place_of place found.0 found.1).there;
           differ = λ first second slot at also. order_differ one.step.disks (follows.slots_rise rise) first second slot at also;
         };
         counted = follows.are_prepared.counted ∙ sym (length-map written (λ (disk : Seated). disk.seat.slot));
         lie_on = λ place slot update at also.
-            let found = map_get (λ (disk : Seated). disk.seat.slot) written place slot at in
+            let found = in_map (λ (disk : Seated). disk.seat.slot) written place slot at in
             let here = place_of place found.0 found.1 in
             subst (λ (n : ℕ). LiesOn (slice_index sizes n) update) found.2
             (lies_on (slice_index sizes found.0.seat.slot) here.anchor found.0.copy found.0.last found.0.mode update here.under (follows.are_prepared.each place found.0 update found.1 also));

@@ -3,6 +3,7 @@ use Rattle.std.proofs.Common.{◌≡◌, ◌≢◌, ℕ, ◌<◌, true, List, []
 use Rattle.std.proofs.Math.Path.{fun_ext}
 use Rattle.std.specs.Prelude.{slice_get, slice_index}
 use Rattle.std.specs.List.{AllByRecursion}
+use Rattle.ddf_lemmas.proofs.Lists.{all_from, in_map, mapped_at, some_at_place}
 use Rattle.ddf_bay.specs.State.{BayState, size_of}
 use Rattle.ddf_bay.specs.Sectors.{Image}
 use Rattle.ddf_bay.specs.Moments.{IsSettled}
@@ -21,7 +22,7 @@ use Rattle.ddf_copy.specs.Whole.{IsNewestUnder}
 use Rattle.ddf_config.specs.declared.seat.Seat.{Seat}
 use Rattle.ddf_view.specs.Shows.{shows}
 use Rattle.ddf_view.specs.View.{view_of}
-use Rattle.ddf_rewrite.proofs.Lists.{all_at, all_by_get, all_mapped, get_map, map_get, some_same}
+use Rattle.ddf_rewrite.proofs.Lists.{all_at, all_mapped, some_same}
 use Rattle.ddf_update.specs.declared.prepared.Mode.{Mode}
 use Rattle.ddf_update.specs.declared.prepared.Mode.TheVariants.{Adopt, Change, Found, Move}
 use Rattle.ddf_update.specs.Changes.{AreChanged, MayChangeAll, SlotChange, anchor_after}
@@ -42,7 +43,7 @@ use Rattle.ddf_recovery.specs.Committed.{HoldsGroup, IsReadyFor, MayWriteNext, g
 use Rattle.ddf_assembly.specs.Held.{AreHeldOn, IsHeldOn, StandUnder}
 use Rattle.ddf_recovery.proofs.CommittedCopies.{standing_under}
 use Rattle.ddf_steps.proofs.CommittedLevels.{changed_levelled, level_else, level_here, seated_after, seats_levelled, slot_or_none}
-use Rattle.ddf_seats.proofs.CommittedSeats.{get_there, seated_is}
+use Rattle.ddf_seats.proofs.CommittedSeats.{seated_is}
 use Rattle.ddf_seats.proofs.Lists.{get_within}
 use Rattle.ddf_steps.proofs.Ordered.{order_at, order_from}
 use Rattle.ddf_steps.proofs.Rewritten.{none_founded, places_under}
@@ -128,7 +129,7 @@ module _ (group : GroupValue) (one : ReadyStep) (rise : SlotsRise (seats_in (sea
     can_be_changed = subst (λ (disks : List Seated). CanBeChanged one.step.config disks) (sym after_is) (changed_levelled one.step.config one.step.disks follows.can_be_changed);
     are_level = subst (λ (disks : List Seated). AllByRecursion (IsLevelIn (group_after group one.step)) disks) (sym after_is)
         (all_mapped (IsLevelIn (group_after group one.step)) levelled one.step.disks
-        (all_by_get (λ (disk : Seated). IsLevelIn (group_after group one.step) (levelled disk)) one.step.disks
+        (all_from (λ (disk : Seated). IsLevelIn (group_after group one.step) (levelled disk)) one.step.disks
         (λ k disk at. record {
           is_newest = level_here group.newest one.step.disks disks_rise k disk at (disks_within k disk at);
           is_shown = all_at (λ (other : Seated). shows one.step.config (view_of other.copy) ≡ true) one.step.disks k disk follows.show at;
@@ -143,13 +144,13 @@ module _ (group : GroupValue) (one : ReadyStep) (rise : SlotsRise (seats_in (sea
   after_sequence =
       subst (λ (disks : List Seated). HaveSequence one.step.config.sequence disks) (sym after_is)
       (all_mapped (λ (disk : Seated). disk.copy.header.sequence ≡ one.step.config.sequence) levelled one.step.disks
-      (all_by_get (λ (disk : Seated). disk.copy.header.sequence ≡ one.step.config.sequence) one.step.disks (λ k disk at. (disk_is k disk at).has_sequence)))
+      (all_from (λ (disk : Seated). disk.copy.header.sequence ≡ one.step.config.sequence) one.step.disks (λ k disk at. (disk_is k disk at).has_sequence)))
 
   module _ (sizes : List ℕ) (have : HaveAnchors sizes group.newest) where
     -- the copies of the group's disks in a slot can stand there under the anchor of its newest copy
     stand_on : (slot : ℕ) (found : Newest) → slice_get group.newest slot ≡ Some (Some found) → (size : ℕ) (anchor : Header) → IsNewestUnder size anchor found → StandOn slot size anchor (seated group)
     stand_on slot found is_found size anchor under =
-        all_by_get (λ (disk : Seated). disk.seat.slot ≡ slot → IsUnder size anchor disk.copy) (seated group)
+        all_from (λ (disk : Seated). disk.seat.slot ≡ slot → IsUnder size anchor disk.copy) (seated group)
         (λ k disk at here.
         let own = seated_is group k disk at in
         let also = subst (λ (n : ℕ). slice_get group.newest n ≡ Some (Some own.found)) here own.is_found in
@@ -172,7 +173,7 @@ module _ (group : GroupValue) (one : ReadyStep) (rise : SlotsRise (seats_in (sea
         let before_under = all_at (λ (other : Seated). other.seat.slot ≡ disk.seat.slot → IsUnder size prior.1.anchor other.copy) (seated group) is.place is.before seated_under is.is_there slot_is in
         let can = (all_at (IsOfGroup one.step.config) one.step.disks k disk follows.can_be_changed.of_group at).is_copy in
         let placed = order_at one.step.disks k disk at in
-        let update = get_there one.updates placed.0 (let below = get_within (in_order one.step.disks) disk placed.0 placed.1 in let counted = follows.are_prepared.counted in omega (arith, below, counted)) in
+        let update = some_at_place one.updates placed.0 (let below = get_within (in_order one.step.disks) disk placed.0 placed.1 in let counted = follows.are_prepared.counted in omega (arith, below, counted)) in
         let prepared = follows.are_prepared.each placed.0 disk update.0 placed.1 update.1 in
         let anew : HasAnchor size (Level disk.copy) = record {
           anchor = anchor_header disk.copy;
@@ -205,7 +206,7 @@ module _ (group : GroupValue) (one : ReadyStep) (rise : SlotsRise (seats_in (sea
     written = in_order one.step.disks
 
     slot_at : (k : ℕ) (disk : Seated) → slice_get written k ≡ Some disk → slice_get (slots_in written) k ≡ Some disk.seat.slot
-    slot_at k disk at = get_map (λ (one : Seated). one.seat.slot) written k disk at
+    slot_at k disk at = mapped_at (λ (one : Seated). one.seat.slot) written k disk at
 
     both_of : (k : ℕ) (disk : Seated) → slice_get written k ≡ Some disk → AreBoth (size_of new disk.seat.slot) (new.held disk.seat.slot) (anchor_after (seat k)) disk.copy
     both_of k disk at =
@@ -213,7 +214,7 @@ module _ (group : GroupValue) (one : ReadyStep) (rise : SlotsRise (seats_in (sea
         let here = slot_at k disk at in
         let below = get_within written disk k at in
         let counted = follows.are_prepared.counted in
-        let update = get_there one.updates k (omega (arith, below, counted)) in
+        let update = some_at_place one.updates k (omega (arith, below, counted)) in
         let is = changed.have_changed k slot update.0 (get_within (slots_in written) slot k here) here update.1 in
         subst (λ (sizes : List ℕ). AreBoth (slice_index sizes slot) (new.held slot) (anchor_after (seat k)) disk.copy) (sym same_sizes)
         (subst (λ (copy : DiskCopy). AreBoth (size_of old slot) (new.held slot) (anchor_after (seat k)) copy) (news k disk at) is.are_both)
@@ -242,7 +243,7 @@ module _ (group : GroupValue) (one : ReadyStep) (rise : SlotsRise (seats_in (sea
     -- a slot that isn't written
     held_else : (slot : ℕ) → ((k : ℕ) (disk : Seated) → slice_get one.step.disks k ≡ Some disk → slot ≢ disk.seat.slot) → new.held slot ≡ old.held slot
     held_else slot none = fun_ext (λ l. changed.others slot l (λ place below at.
-        let found = map_get (λ (one : Seated). one.seat.slot) written place slot at in
+        let found = in_map (λ (one : Seated). one.seat.slot) written place slot at in
         let from = order_from one.step.disks place found.0 found.1 in
         none from.0 found.0 from.1 (sym found.2)))
 
@@ -276,7 +277,7 @@ module _ (group : GroupValue) (one : ReadyStep) (rise : SlotsRise (seats_in (sea
       are_held = after_held;
       are_under = after_under;
       are_settled = λ place one_seat below at.
-          let found = map_get (λ (one : Seated). one.seat) one.step.disks place one_seat at in
+          let found = in_map (λ (one : Seated). one.seat) one.step.disks place one_seat at in
           let placed = order_at one.step.disks place found.0 found.1 in
           let here = slot_at placed.0 found.0 placed.1 in
           subst (λ (s : Seat). IsSettled new.may_hold new.held s.slot) found.2

@@ -1,5 +1,5 @@
 -- The copy of a slot that an update writes last, and what stands for the slot.
-use Rattle.std.proofs.Common.{◌≡◌, ◌≢◌, ◌⊎◌, nat_lt, ℕ, Bool, true, false, List, Some, Result, Ok, Err, sym, ap, subst, ◌∙◌, inl, inr, ⊎_elim, arith, if◌then◌else◌}
+use Rattle.std.proofs.Common.{◌≡◌, ◌≢◌, ℕ, Bool, true, false, List, Some, Result, Ok, Err, sym, ap, subst, ◌∙◌, inl, inr, ⊎_elim, arith, if◌then◌else◌}
 use Rattle.std.proofs.lemmas.Bool.{cases_lt, lt-ltb, le-ltb}
 use Rattle.ddf_header.specs.declared.reading.Header.{Header}
 use Rattle.ddf_copy.specs.declared.copy.DiskCopy.{DiskCopy}
@@ -13,6 +13,7 @@ use Rattle.ddf_copy.specs.Headers.{IsUnder}
 use Rattle.ddf_copy.specs.Shows.{IsNewest}
 use Rattle.ddf_copy.specs.Whole.{IsNewestUnder}
 use Rattle.ddf_copy.proofs.LevelCopies.{level_from}
+use Rattle.ddf_copy.proofs.Places.{of_parts}
 
 -- ---- two copies that differ
 
@@ -65,27 +66,11 @@ standing_sequence size sector anchor (newests.TwoDiffer p s) read copy old stand
     sym alike ∙ ap (λ (c : DiskCopy). c.header.sequence) same
 standing_sequence size sector anchor (newests.Neither first second) read copy old stands is = absurd cc
 
--- It is read in one of the two places.
-one_of : (a b level : Bool) (one other copy : DiskCopy)
-    → standing_copy (if a then newests.One Secondary other else if b then newests.One Primary one else if level then newests.Level one else newests.TwoDiffer one other) ≡ Some copy
-    → (one ≡ copy) ⊎ (other ≡ copy)
-one_of true b level one other copy h = let same : other ≡ copy = cc in inr same
-one_of false true level one other copy h = let same : one ≡ copy = cc in inl same
-one_of false false true one other copy h = let same : one ≡ copy = cc in inl same
-one_of false false false one other copy h = let same : one ≡ copy = cc in inl same
-
-read_one : (level : Bool) (one other : Result DiskCopy CopyFault) (copy : DiskCopy) → standing_copy (newest_in level one other) ≡ Some copy → (one ≡ Ok copy) ⊎ (other ≡ Ok copy)
-read_one level (Ok one) (Ok other) copy h =
-    ⊎_elim (λ same. inl (ap Ok same)) (λ same. inr (ap Ok same)) (one_of (nat_lt one.header.sequence other.header.sequence) (nat_lt other.header.sequence one.header.sequence) level one other copy h)
-read_one level (Ok one) (Err fault) copy h = let same : one ≡ copy = cc in inl (ap Ok same)
-read_one level (Err fault) (Ok other) copy h = let same : other ≡ copy = cc in inr (ap Ok same)
-read_one level (Err fault) (Err second) copy h = absurd cc
-
 pub standing_read : (size : ℕ) (sector : ℕ → List ℕ) (anchor : Header) (newest : Newest) → newest_of size sector anchor ≡ newest → (copy : DiskCopy) → standing_copy newest ≡ Some copy
     → (which : Which) × (copy_of size sector anchor which ≡ Ok copy)
 unfolding newest_of
 standing_read size sector anchor newest is copy stands = ⊎_elim (λ first. (Primary, first)) (λ second. (Secondary, second))
-    (read_one (are_level (copy_of size sector anchor Primary) (copy_of size sector anchor Secondary)) (copy_of size sector anchor Primary) (copy_of size sector anchor Secondary) copy
+    (of_parts (are_level (copy_of size sector anchor Primary) (copy_of size sector anchor Secondary)) (copy_of size sector anchor Primary) (copy_of size sector anchor Secondary) copy
     (ap standing_copy is ∙ stands))
 
 pub standing_is : (newest : Newest) (copy : DiskCopy) → standing_copy newest ≡ Some copy → (first second : CopyFault) → newest ≢ newests.Neither first second

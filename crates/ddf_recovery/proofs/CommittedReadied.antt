@@ -1,7 +1,8 @@
 -- The steps that changes are: each rewrites disks of the one before it, and their sequence numbers rise.
-use Rattle.std.proofs.Common.{◌≡◌, ℕ, ◌<◌, ◌≤◌, Bool, true, false, ◌||◌, List, [], ◌∷◌, map, filter, Option, Some, None, Result, Ok, Err, refl, sym, ap, subst, ◌∙◌, arith, if◌then◌else◌}
-use Rattle.std.proofs.lemmas.Bool.{ltb-false}
+use Rattle.std.proofs.Common.{◌≡◌, ℕ, ◌<◌, ◌≤◌, Bool, true, false, List, [], ◌∷◌, map, filter, Option, Some, None, Result, Ok, Err, refl, sym, ap, subst, ◌∙◌, if◌then◌else◌}
+use Rattle.std.proofs.lemmas.Bool.{ltb-false, or_parts}
 use Rattle.std.specs.List.{AllByRecursion, list_any}
+use Rattle.ddf_lemmas.proofs.Lists.{all_from, filter_get, in_map}
 use Rattle.ddf_config.specs.declared.refusal.Refusal.{Refusal}
 use Rattle.ddf_config.specs.Configuration.{Configuration}
 use Rattle.ddf_copy.specs.declared.copy.DiskCopy.{DiskCopy}
@@ -12,10 +13,9 @@ use Rattle.ddf_plan.specs.Refusals.{greatest_sequence}
 use Rattle.ddf_plan.specs.Same.{is_step}
 use Rattle.ddf_rewrite.specs.Before.{Before, before}
 use Rattle.ddf_rewrite.specs.Copies.{changed_copy}
-use Rattle.ddf_rewrite.proofs.Lists.{all_by_get, map_get}
 use Rattle.ddf_seats.specs.declared.seated.Seated.{Seated}
 use Rattle.ddf_seats.specs.Seated.{seated, views_in, levelled}
-use Rattle.ddf_steps.specs.Steps.{Step, disks_after, raised, rewritten, stays_in, step_of}
+use Rattle.ddf_steps.specs.Steps.{Step, disks_after, rewritten, stays_in, step_of}
 use Rattle.ddf_steps.specs.Refusing.{step_refusal}
 use Rattle.ddf_seats.specs.declared.fault.GroupFault.{GroupFault}
 use Rattle.ddf_seats.specs.declared.fault.GroupFault.TheVariants.{SequenceSpent}
@@ -28,7 +28,7 @@ use Rattle.ddf_steps.specs.Committed.{AreRewriting, DoRise, HaveSequence, IsRewr
 use Rattle.ddf_recovery.specs.Committed.{IsReadyFor}
 use Rattle.ddf_recovery.proofs.Recovered.{settled_readied}
 use Rattle.ddf_steps.proofs.Rewritten.{changed_header, changed_places}
-use Rattle.ddf_seats.proofs.Lists.{filter_get}
+use Rattle.ddf_recovery.proofs.Numbered.{raised_above}
 
 -- ---- the disks of a step
 
@@ -40,9 +40,9 @@ changed_sequence old leaders config timestamp = refl
 pub disks_rewritten : (timestamp : ℕ) (leaders : Before) (config : Configuration) (disks : List Seated) → AllByRecursion (IsRewritten disks config) (disks_after timestamp leaders config disks)
 unfolding disks_after
 disks_rewritten timestamp leaders config disks =
-    all_by_get (IsRewritten disks config) (map (rewritten leaders config timestamp) (filter (stays_in config) disks))
+    all_from (IsRewritten disks config) (map (rewritten leaders config timestamp) (filter (stays_in config) disks))
     (λ k disk at.
-    let found = map_get (rewritten leaders config timestamp) (filter (stays_in config) disks) k disk at in
+    let found = in_map (rewritten leaders config timestamp) (filter (stays_in config) disks) k disk at in
     let here = filter_get (stays_in config) disks k found.0 found.1 in
     subst (IsRewritten disks config) found.2
     (record {
@@ -110,13 +110,6 @@ steps_rewrite timestamp (change ∷ changes) config disks steps h =
 
 -- ---- sequence numbers
 
-pub raised_more : (sequence steps : ℕ) → 0 < steps → raised sequence steps ≤ greatest_sequence → sequence < raised sequence steps
-raised_more sequence steps more within = omega (arith, more, within)
-
-none_of : (a b : Bool) → (a || b) ≡ false → (a ≡ false) × (b ≡ false)
-none_of true b h = absurd cc
-none_of false b h = (refl, h)
-
 abbrev pub NoneSpent : List ReadyStep → Type 0
 NoneSpent steps = list_any is_spent (map (λ (one : ReadyStep). one.step) steps) ≡ false
 
@@ -127,7 +120,7 @@ rise_by : (sequence : ℕ) (step : Step) (next same : Result (List Step) Refusal
     → (b : Bool) → (if b then with_step step next else same) ≡ Ok (map (λ (one : ReadyStep). one.step) steps) → NoneSpent steps → DoRise sequence steps
 rise_by sequence step next same steps here behind other true found none =
     let are = steps_are step next steps found in
-    let spent = none_of (is_spent are.one.step) (list_any is_spent (map (λ (one : ReadyStep). one.step) are.others)) (subst NoneSpent are.are none) in
+    let spent = or_parts (is_spent are.one.step) (list_any is_spent (map (λ (one : ReadyStep). one.step) are.others)) (subst NoneSpent are.are none) in
     let within : are.one.step.config.sequence ≤ greatest_sequence = ltb-false greatest_sequence are.one.step.config.sequence spent.0 in
     subst (DoRise sequence) (sym are.are) (
       subst (λ (s : Step). sequence < s.config.sequence) are.step_is (here (subst (λ (s : Step). s.config.sequence ≤ greatest_sequence) (sym are.step_is) within)),
@@ -142,7 +135,7 @@ steps_rise timestamp [] config disks (one ∷ others) h none = absurd cc
 steps_rise timestamp (change ∷ changes) config disks steps h none =
     let step = step_of timestamp config disks change in
     rise_by config.sequence step (steps_from timestamp None changes step.config (map levelled step.disks)) (steps_from timestamp None changes config disks) steps
-    (λ within. raised_more config.sequence (steps_of change) (steps_taken change) within)
+    (λ within. raised_above config.sequence (steps_of change) (steps_taken change) within)
     (λ others is. steps_rise timestamp changes step.config (map levelled step.disks) others is)
     (λ others is. steps_rise timestamp changes config disks others is)
     (is_step config change)

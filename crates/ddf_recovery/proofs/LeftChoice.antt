@@ -6,13 +6,14 @@ use Rattle.std.specs.Prelude.{find, slice_get}
 use Rattle.std.specs.List.{list_all, list_any, range_with_len}
 use Rattle.std.specs.Option.{option_and_then, option_map_or}
 use Rattle.std.specs.Str.{bytes_eq}
+use Rattle.ddf_lemmas.proofs.Lists.{bytes_same, found_place, list_all_from, list_all_read}
 use Rattle.ddf_view.specs.View.{View}
-use Rattle.ddf_view.proofs.Tests.{bytes_same, same_bytes}
+use Rattle.ddf_view.proofs.Tests.{same_bytes}
 use Rattle.ddf_group.specs.declared.shown.Shown.{Shown}
 use Rattle.ddf_group.specs.declared.answer.Assembly.TheVariants.{NoGroup}
 use Rattle.ddf_group.specs.Choice.{absorbs, absorbs_at, chosen, claims_all, claims_none, first_free, group_at, is_absorbed, only_group, other_free, shows_free, unless_other}
 use Rattle.ddf_group.specs.Slots.{claims, claims_by, group_shown, leading_view, leads, none_later, numbers, sequence_in, shows_group, slot_at, view_in}
-use Rattle.ddf_rewrite.proofs.Lists.{all_from, found_place, get_range, list_all_get}
+use Rattle.ddf_rewrite.proofs.Lists.{get_range}
 
 -- Slots that show the same groups before and after: those that differ show one group, and each has the same disk. The slots that this group
 -- claims show it, before and after, and it claims one.
@@ -29,7 +30,7 @@ pub record ShowAlike (guid : List ℕ) (slots after : List Shown) : Type 0 where
   pub is_claimed_after : claims after guid one ≡ true
 
 -- A slot that shows a group is one of the slots.
-within : (all : List Shown) (n : ℕ) (group : List ℕ) → group_shown (slot_at all n) ≡ Some group → n < length all
+pub within : (all : List Shown) (n : ℕ) (group : List ℕ) → group_shown (slot_at all n) ≡ Some group → n < length all
 within [] n group e = absurd cc
 within (shown ∷ all) zero group e = omega arith
 within (shown ∷ all) (suc n) group e = let below = within all n group e in omega (arith, below)
@@ -98,7 +99,7 @@ module _ (guid : List ℕ) (slots after : List Shown) (alike : ShowAlike guid sl
   no_claims : (list : List Shown) (group : List ℕ) → bytes_eq group guid ≡ false → ((slot : ℕ) → shows_group group (slot_at list slot) ≡ shows_group group (slot_at slots slot))
       → ((slot : ℕ) → claims list guid slot ≡ true → group_shown (slot_at slots slot) ≡ Some guid) → claims_none list guid group ≡ true
   no_claims list group differs same own =
-      all_from (λ slot. not (shows_group group (slot_at list slot) && claims list guid slot)) (numbers list)
+      list_all_from (λ slot. not (shows_group group (slot_at list slot) && claims list guid slot)) (numbers list)
       (λ i slot at. ap (λ b. not (b && claims list guid slot)) (same slot) ∙ by slot (claims list guid slot) (own slot))
     where
       by : (slot : ℕ) (b : Bool) → (b ≡ true → group_shown (slot_at slots slot) ≡ Some guid) → not (shows_group group (slot_at slots slot) && b) ≡ true
@@ -120,7 +121,7 @@ module _ (guid : List ℕ) (slots after : List Shown) (alike : ShowAlike guid sl
       by : (b : Bool) → claims_all list guid group ≡ b → b ≡ false
       by false e = refl
       by true e =
-          let passes = list_all_get (λ n. not (shows_group group (slot_at list n)) || claims list guid n) (numbers list) slot slot e (number_at list slot below) in
+          let passes = list_all_read (λ n. not (shows_group group (slot_at list n)) || claims list guid n) (numbers list) slot slot e (number_at list slot below) in
           let claim : claims list guid slot ≡ true = sym (ap (λ b. not b || claims list guid slot) shown) ∙ passes in
           absurd (false≢true (sym (not_other group differs slot (own slot claim)) ∙ shown_before))
 
@@ -131,7 +132,7 @@ module _ (guid : List ℕ) (slots after : List Shown) (alike : ShowAlike guid sl
       by : (b : Bool) → claims_none list guid guid ≡ b → b ≡ false
       by false e = refl
       by true e =
-          let passes = list_all_get (λ n. not (shows_group guid (slot_at list n) && claims list guid n)) (numbers list) slot slot e (number_at list slot below) in
+          let passes = list_all_read (λ n. not (shows_group guid (slot_at list n) && claims list guid n)) (numbers list) slot slot e (number_at list slot below) in
           absurd (false≢true (sym (ap (λ b. not (b && claims list guid slot)) shown ∙ ap (λ b. not b) claim) ∙ passes))
 
   -- ---- which group absorbs which

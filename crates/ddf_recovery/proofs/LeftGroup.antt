@@ -1,8 +1,8 @@
 -- A settled group that a step was written to is assembled again to the configuration after the change.
-use Rattle.std.proofs.Common.{◌≡◌, ℕ, zero, suc, ◌<◌, Bool, true, false, not, ◌&&◌, ◌||◌, eqb, List, [], ◌∷◌, length, map, filter, fold, Option, Some, None, Result, Ok, Err, refl, ap, sym, ◌∙◌, subst, arith, zero-add, if◌then◌else◌, inl, inr}
+use Rattle.std.proofs.Common.{◌≡◌, ℕ, ◌<◌, Bool, true, false, not, ◌&&◌, ◌||◌, eqb, List, [], ◌∷◌, length, map, filter, fold, Option, Some, None, Result, Ok, Err, refl, ap, sym, ◌∙◌, subst, arith, zero-add, if◌then◌else◌, inl, inr}
 use Rattle.std.proofs.lemmas.Bool.{eqb-true, false≢true}
 use Rattle.std.specs.Prelude.{filter_map, option_map, slice_get}
-use Rattle.std.specs.List.{AllByRecursion, cons_option, list_any}
+use Rattle.std.specs.List.{AllByRecursion, list_any}
 use Rattle.std.specs.Option.{option_and_then, option_map_or}
 use Rattle.ddf_copy.specs.declared.copy.DiskCopy.{DiskCopy}
 use Rattle.ddf_copy.specs.declared.newest_copy.Newest.{Newest}
@@ -18,7 +18,6 @@ use Rattle.ddf_view.specs.Reading.{read}
 use Rattle.ddf_view.specs.Shows.{shows}
 use Rattle.ddf_view.specs.View.{View, view_of, lists_current}
 use Rattle.ddf_view.proofs.Agreement.{shown_from}
-use Rattle.ddf_view.proofs.Finds.{when_false}
 use Rattle.ddf_group.specs.declared.shown.Shown.{Shown}
 use Rattle.ddf_group.specs.declared.shown.Shown.TheVariants.{Level}
 use Rattle.ddf_group.specs.declared.answer.Assembly.{Assembly}
@@ -32,7 +31,7 @@ use Rattle.ddf_rewrite.specs.Before.{Before, before}
 use Rattle.ddf_rewrite.specs.Changing.{CanChange}
 use Rattle.ddf_rewrite.specs.Copies.{changed_copy}
 use Rattle.ddf_rewrite.proofs.Fully.{changed_together}
-use Rattle.ddf_rewrite.proofs.Lists.{all_at, all_by_get, all_mapped, get_map, get_range, map_get}
+use Rattle.ddf_rewrite.proofs.Lists.{all_at, all_mapped, get_range}
 use Rattle.ddf_seats.specs.declared.fault.GroupFault.{GroupFault}
 use Rattle.ddf_seats.specs.declared.fault.GroupFault.TheVariants.{SequenceSpent}
 use Rattle.ddf_seats.specs.declared.seated.Seated.{Seated}
@@ -46,16 +45,19 @@ use Rattle.ddf_seats.specs.Seated.{with_level, seated, seats_in, slots_in, views
 use Rattle.ddf_steps.specs.Refusing.{step_refusal}
 use Rattle.ddf_assembly.specs.Settled.{IsSettledGroup}
 use Rattle.ddf_steps.specs.Steps.{Step, config_after, disks_after, rewritten, stays_in, step_of}
-use Rattle.ddf_assembly.proofs.LeftBefore.{IsFoundAs, all_pass, found_by, group_is, level_at, none_gone, shows_within, slots_claimed, claimed_current, claimed_disk, claims_within, group_own}
+use Rattle.ddf_assembly.proofs.LeftBefore.{IsFoundAs, found_by, group_is, level_at, none_gone, shows_within, slots_claimed, claimed_current, claimed_disk, claims_within, group_own}
 use Rattle.ddf_recovery.proofs.LeftChoice.{ShowAlike, same_chosen}
 use Rattle.ddf_recovery.proofs.LeftLists.{IsNoneOf, one_or_none}
 use Rattle.std.specs.Str.{bytes_eq}
+use Rattle.std.proofs.lemmas.Map.Keys.{any_passes_from_place}
+use Rattle.ddf_lemmas.proofs.Lists.{all_fail, all_from, any_place, filter_all, filter_get, filter_pass, in_map, map_empty, mapped_at, none_kept}
+use Rattle.ddf_lemmas.proofs.Options.{value_there}
 use Rattle.ddf_assembly.proofs.LeftMembers.{IsCurrentIn, table_current, was_current}
 use Rattle.ddf_recovery.proofs.LeftSlots.{IsLeft, IsWritten, claimed_are, leaders_are, not_contradicted, claims_other, claims_written}
-use Rattle.ddf_recovery.proofs.LeftStep.{IsOf, shown_of_slot, slot_of, IsMade, apart_next, can_change, claimed_is, from_kept, left, level_now, made_is, made_shows, own_reference, same_seat, same_view, stays_made, apart_before, made_current, made_guid, made_reference, shown_before, was_claimed}
+use Rattle.ddf_recovery.proofs.LeftStep.{IsOf, shown_of_slot, slot_of, IsMade, apart_next, can_change, claimed_is, left, level_now, made_is, made_shows, own_reference, same_seat, same_view, stays_made, apart_before, made_current, made_guid, made_reference, shown_before, was_claimed}
 use Rattle.ddf_recovery.proofs.Recovered.{settled_readied}
 use Rattle.ddf_assembly.proofs.SettledHeld.{newest_kept}
-use Rattle.ddf_assembly.proofs.SettledLists.{all_fail, find_kept}
+use Rattle.ddf_assembly.proofs.SettledLists.{find_kept}
 
 -- ---- lists
 
@@ -63,47 +65,6 @@ use Rattle.ddf_assembly.proofs.SettledLists.{all_fail, find_kept}
 begins : {X : Type 0} (xs : List X) (x : X) → slice_get xs 0 ≡ Some x → (rest : List X) × (xs ≡ x ∷ rest)
 begins [] x at = absurd cc
 begins {X = X} (y ∷ ys) x at = let same : y ≡ x = cc in (ys, ap (λ (z : X). z ∷ ys) same)
-
--- Where each item fails a test, none is kept.
-filter_none : {X : Type 0} (test : X → Bool) (xs : List X) → ((k : ℕ) (x : X) → slice_get xs k ≡ Some x → test x ≡ false) → filter test xs ≡ []
-filter_none test [] fails = refl
-filter_none test (x ∷ xs) fails = when_false (test x) (x ∷ filter test xs) (filter test xs) (fails 0 x refl) ∙ filter_none test xs (λ k. fails (suc k))
-
--- What is made of each item is what is kept.
-filter_all : {X Y Z : Type 0} (f : X → Option Y) (g : Z → X) (h : Z → Y) (zs : List Z) → ((k : ℕ) (z : Z) → slice_get zs k ≡ Some z → f (g z) ≡ Some (h z)) → filter_map f (map g zs) ≡ map h zs
-filter_all f g h [] each = refl
-filter_all {Y = Y} f g h (z ∷ zs) each =
-    ap (λ (found : Option Y). cons_option found (filter_map f (map g zs))) (each 0 z refl)
-    ∙ ap (λ (rest : List Y). h z ∷ rest) (filter_all f g h zs (λ k. each (suc k)))
-
--- Some item passes a test that one of the list passes.
-any_from : {X : Type 0} (p : X → Bool) (xs : List X) (j : ℕ) (x : X) → slice_get xs j ≡ Some x → p x ≡ true → list_any p xs ≡ true
-any_from p [] j x at passes = absurd cc
-any_from p (y ∷ ys) zero x at passes = let same : y ≡ x = cc in ap (λ b. b || list_any p ys) (ap p same ∙ passes)
-any_from p (y ∷ ys) (suc j) x at passes = ap (λ b. p y || b) (any_from p ys j x at passes) ∙ or_yes (p y)
-  where
-    or_yes : (b : Bool) → (b || true) ≡ true
-    or_yes true = refl
-    or_yes false = refl
-
--- Where some item passes, it has a place.
-any_place : {X : Type 0} (p : X → Bool) (xs : List X) → list_any p xs ≡ true → (i : ℕ) × (x : X) × (slice_get xs i ≡ Some x) × (p x ≡ true)
-any_place p [] h = absurd (false≢true h)
-any_place {X = X} p (y ∷ ys) h = by (λ rest. any_place p ys rest) (p y) refl h
-  where
-    by : (list_any p ys ≡ true → (i : ℕ) × (x : X) × (slice_get ys i ≡ Some x) × (p x ≡ true)) → (b : Bool) → p y ≡ b → (b || list_any p ys) ≡ true → (i : ℕ) × (x : X) × (slice_get (y ∷ ys) i ≡ Some x) × (p x ≡ true)
-    by rest true e k = (0, y, refl, e)
-    by rest false e k = let later = rest k in (suc later.0, later.1, later.2, later.3)
-
--- What nothing is made of is empty.
-map_empty : {X Y : Type 0} (f : X → Y) (xs : List X) → map f xs ≡ [] → xs ≡ []
-map_empty f [] h = refl
-map_empty f (x ∷ xs) h = absurd cc
-
--- What is there of a value passes.
-value_there : {X : Type 0} (test : X → Bool) (o : Option X) → option_map_or test o false ≡ true → (x : X) × (o ≡ Some x) × (test x ≡ true)
-value_there test None passes = absurd (false≢true passes)
-value_there test (Some x) passes = (x, refl, passes)
 
 -- ---- what the new copies give
 
@@ -196,11 +157,11 @@ module _ (group : GroupValue) (are : AreNewest group.newest) (settled : IsSettle
 
   all_can : AllByRecursion (λ (disk : Seated). CanChange disk.copy led next timestamp) (filter (stays_in next) disks)
   all_can =
-      all_by_get (λ (disk : Seated). CanChange disk.copy led next timestamp) (filter (stays_in next) disks)
+      all_from (λ (disk : Seated). CanChange disk.copy led next timestamp) (filter (stays_in next) disks)
       (λ k disk at.
-      let there = from_kept (stays_in next) disks k disk at in
+      let there = filter_get (stays_in next) disks k disk at in
       can_change group are settled guid found timestamp change asked free is kept there.0 disk there.1
-      (all_at (λ (one : Seated). stays_in next one ≡ true) (filter (stays_in next) disks) k disk (all_pass (stays_in next) disks) at))
+      (all_at (λ (one : Seated). stays_in next one ≡ true) (filter (stays_in next) disks) k disk (filter_pass (stays_in next) disks) at))
 
   read_now : read next.group next.sequence (map (λ (one : Seated). view_of one.copy) new) ≡ next
   unfolding disks_after
@@ -231,9 +192,9 @@ module _ (group : GroupValue) (are : AreNewest group.newest) (settled : IsSettle
   -- No seat lags.
   none_lags_now : lagging after (slots_in new) next ≡ []
   none_lags_now =
-      filter_none (λ (slot : ℕ). not (has_config next (slot_at after slot))) (slots_in new)
+      none_kept (λ (slot : ℕ). not (has_config next (slot_at after slot))) (slots_in new)
       (λ k slot at.
-      let of = map_get (λ (one : Seated). one.seat.slot) new k slot at in
+      let of = in_map (λ (one : Seated). one.seat.slot) new k slot at in
       ap (λ (shown : Shown). not (has_config next shown)) (sym (ap (slot_at after) of.2) ∙ shown_here k of.0 of.1) ∙ ap not (one_shows k of.0 of.1))
 
   -- ---- nothing is absent
@@ -246,7 +207,7 @@ module _ (group : GroupValue) (are : AreNewest group.newest) (settled : IsSettle
       let here = any_place (has_reference slots entry.0) (claimed slots guid) (seat_there was.member.missing (list_any (has_reference slots entry.0) (claimed slots guid)) was.is_here fails) in
       let slot = here.1 in
       let in_disks : slice_get (slots_in disks) here.0 ≡ Some slot = ap (λ (l : List ℕ). slice_get l here.0) (slots_claimed group are settled guid found) ∙ here.2 in
-      let disk = map_get (λ (one : Seated). one.seat.slot) disks here.0 slot in_disks in
+      let disk = in_map (λ (one : Seated). one.seat.slot) disks here.0 slot in_disks in
       let claim = claimed_is group are settled guid found timestamp change asked free is kept here.0 disk.0 disk.1 in
       let told = value_there (λ one. eqb one entry.0) (reference_at slots slot) here.3 in
       let shown : reference_at slots slot ≡ Some (view_of disk.0.copy).reference =
@@ -258,8 +219,8 @@ module _ (group : GroupValue) (are : AreNewest group.newest) (settled : IsSettle
       let apart = apart_next group are settled guid found timestamp change asked free is kept some (made 0 some first) in
       let stays : stays_in next disk.0 ≡ true = ap (is_current next.members) reference ∙ table_current next.members entry.1.guid entry.0 apart current in
       let there = stays_made group are settled guid found timestamp change asked free is kept here.0 disk.0 disk.1 stays in
-      let at : slice_get (slots_in new) there.0 ≡ Some slot = get_map (λ (one : Seated). one.seat.slot) new there.0 (rewritten led next timestamp disk.0) there.1 ∙ ap (λ (n : ℕ). Some n) disk.2 in
-      any_from (has_reference after entry.0) (slots_in new) there.0 slot at
+      let at : slice_get (slots_in new) there.0 ≡ Some slot = mapped_at (λ (one : Seated). one.seat.slot) new there.0 (rewritten led next timestamp disk.0) there.1 ∙ ap (λ (n : ℕ). Some n) disk.2 in
+      any_passes_from_place (has_reference after entry.0) (slots_in new) there.0 slot at
       (ap (λ (o : Option ℕ). option_map_or (λ one. eqb one entry.0) o false) (what_is_left.same_references there.0 slot at) ∙ here.3)
     where
       seat_there : (missing any : Bool) → missing ≡ false → (not missing && not any) ≡ false → any ≡ true
@@ -270,7 +231,7 @@ module _ (group : GroupValue) (are : AreNewest group.newest) (settled : IsSettle
   none_absent_now : absent after (slots_in new) next.members ≡ []
   none_absent_now =
       ap (λ (l : List (ℕ × Member)). map (λ (member : ℕ × Member). member.0) l)
-      (filter_none (is_absent after (slots_in new)) next.members (λ k entry at. by k entry at entry.1.missing refl))
+      (none_kept (is_absent after (slots_in new)) next.members (λ k entry at. by k entry at entry.1.missing refl))
     where
       by : (k : ℕ) (entry : ℕ × Member) → slice_get next.members k ≡ Some entry → (b : Bool) → entry.1.missing ≡ b → is_absent after (slots_in new) entry ≡ false
       by k entry at true e = ap (λ b. not b && not (list_any (has_reference after entry.0) (slots_in new))) e
@@ -282,10 +243,10 @@ module _ (group : GroupValue) (are : AreNewest group.newest) (settled : IsSettle
 
   is_shown_now : is_shown after guid ≡ true
   is_shown_now =
-      let written : IsWritten after (slots_in new) some.seat.slot (view_of some.copy) = record { place = 0; at = get_map (λ (one : Seated). one.seat.slot) new 0 some first; shown = shown_here 0 some first } in
+      let written : IsWritten after (slots_in new) some.seat.slot (view_of some.copy) = record { place = 0; at = mapped_at (λ (one : Seated). one.seat.slot) new 0 some first; shown = shown_here 0 some first } in
       let shown : shows_group guid (slot_at after some.seat.slot) ≡ true = ap (shows_group guid) (shown_here 0 some first) ∙ what_is_left.shows some.seat.slot (view_of some.copy) written in
       let there = get_range 0 (length after) some.seat.slot (shows_within guid after some.seat.slot shown) in
-      any_from (λ slot. shows_group guid (slot_at after slot)) (numbers after) some.seat.slot some.seat.slot (there.2 ∙ ap (λ (n : ℕ). Some n) (there.1 ∙ zero-add some.seat.slot)) shown
+      any_passes_from_place (λ slot. shows_group guid (slot_at after slot)) (numbers after) some.seat.slot some.seat.slot (there.2 ∙ ap (λ (n : ℕ). Some n) (there.1 ∙ zero-add some.seat.slot)) shown
 
   abbrev as_group : List Seat → List ℕ → List ℕ → GroupValue
   as_group seats gone behind_it = record { config = next; seats = seats; absent = gone; lagging = behind_it; newest = newest }

@@ -1,10 +1,10 @@
 -- Lists of which tests keep items, and pairs of which nothing is found.
 use Rattle.std.proofs.Common.{◌≡◌, ◌≢◌, ◌⊎◌, ℕ, zero, suc, ◌+◌, ◌<◌, ◌≤◌, Bool, true, false, List, [], ◌∷◌, Option, Some, None, refl, ap, sym, ◌∙◌, inl, inr, arith, subst}
-use Rattle.std.proofs.lemmas.Bool.{cases_eq}
+use Rattle.std.proofs.lemmas.Bool.{cases_eq, cond-false, cond-true}
 use Rattle.std.specs.Prelude.{filter, find, slice_get}
 use Rattle.std.specs.List.{AllByRecursion, range_with_len}
 use Rattle.std.specs.Option.{option_or}
-use Rattle.ddf_view.proofs.Finds.{when_false, when_true}
+use Rattle.ddf_lemmas.proofs.Options.{none_of_both}
 use Rattle.ddf_group.specs.Pairs.{first_pair, first_with}
 use Rattle.ddf_assembly.proofs.SettledSeats.{Rise}
 
@@ -50,11 +50,11 @@ pub keeps_these : (test : ℕ → Bool) (first count : ℕ) (xs : List ℕ) → 
 keeps_these test first zero [] rise from to passes fails = refl
 keeps_these test first zero (x ∷ xs) rise from to passes fails = let low = from.0 in let high = to.0 in absurd (omega (arith, low, high))
 keeps_these test first (suc count) [] rise from to passes fails =
-    when_false (test first) (first ∷ filter test (range_with_len (first + 1) count)) (filter test (range_with_len (first + 1) count)) (fails first (omega arith) tt)
+    cond-false (test first) (first ∷ filter test (range_with_len (first + 1) count)) (filter test (range_with_len (first + 1) count)) (fails first (omega arith) tt)
     ∙ keeps_these test (first + 1) count [] tt tt tt tt (λ n low none. fails n (omega (arith, low)) none)
 keeps_these test first (suc count) (x ∷ xs) rise from to passes fails = elim (cases_eq first x) [
   | inl same ↦
-      when_true (test first) (first ∷ filter test (range_with_len (first + 1) count)) (filter test (range_with_len (first + 1) count)) (ap test same ∙ passes.0)
+      cond-true (test first) (first ∷ filter test (range_with_len (first + 1) count)) (filter test (range_with_len (first + 1) count)) (ap test same ∙ passes.0)
       ∙ ap (λ (l : List ℕ). first ∷ l)
       (keeps_these test (first + 1) count xs rise.1
       (above_next first xs (subst (λ (n : ℕ). AllByRecursion (λ y. n < y) xs) (sym same) rise.0))
@@ -66,7 +66,7 @@ keeps_these test first (suc count) (x ∷ xs) rise from to passes fails = elim (
       let low = from.0 in
       let below : first < x = omega (arith, low, differ) in
       let above = below_all first x xs below rise.0 in
-      when_false (test first) (first ∷ filter test (range_with_len (first + 1) count)) (filter test (range_with_len (first + 1) count))
+      cond-false (test first) (first ∷ filter test (range_with_len (first + 1) count)) (filter test (range_with_len (first + 1) count))
       (fails first (omega arith) (below_none first (x ∷ xs) (below, above)))
       ∙ keeps_these test (first + 1) count (x ∷ xs) rise (above_next first (x ∷ xs) (below, above))
       (same_end (first + suc count) (first + 1 + count) (omega arith) (x ∷ xs) to)
@@ -78,12 +78,7 @@ keeps_these test first (suc count) (x ∷ xs) rise from to passes fails = elim (
 -- Where each item fails a test, none is found.
 pub find_fails : {X : Type 0} (test : X → Bool) → ((x : X) → test x ≡ false) → (xs : List X) → find test xs ≡ None
 find_fails test fails [] = refl
-find_fails test fails (x ∷ xs) = when_false (test x) (Some x) (find test xs) (fails x) ∙ find_fails test fails xs
-
--- Neither of two is there where their first isn't.
-neither : {Y : Type 0} (one other : Option Y) → option_or one other ≡ None → (one ≡ None) × (other ≡ None)
-neither None other h = (refl, h)
-neither (Some y) other h = absurd cc
+find_fails test fails (x ∷ xs) = cond-false (test x) (Some x) (find test xs) (fails x) ∙ find_fails test fails xs
 
 -- The first of two isn't there where neither is.
 none_or : {Y : Type 0} (one other : Option Y) → one ≡ None → other ≡ None → option_or one other ≡ None
@@ -110,15 +105,15 @@ with_kept test other keep among (x ∷ xs) within gives none = go (with_kept tes
   where
     go : (first_with other (filter among xs) ≡ None → first_with test (filter keep xs) ≡ None) → (b : Bool) → keep x ≡ b → (c : Bool) → among x ≡ c → first_with test (filter keep (x ∷ xs)) ≡ None
     go later true e c f =
-        let both = neither (other x) (first_with other (filter among xs)) (sym (ap (first_with other) (when_true (among x) (x ∷ filter among xs) (filter among xs) (within x e))) ∙ none) in
-        ap (first_with test) (when_true (keep x) (x ∷ filter keep xs) (filter keep xs) e)
+        let both = none_of_both (other x) (first_with other (filter among xs)) (sym (ap (first_with other) (cond-true (among x) (x ∷ filter among xs) (filter among xs) (within x e))) ∙ none) in
+        ap (first_with test) (cond-true (keep x) (x ∷ filter keep xs) (filter keep xs) e)
         ∙ none_or (test x) (first_with test (filter keep xs)) (gives x e both.0) (later both.1)
     go later false e true f =
-        let both = neither (other x) (first_with other (filter among xs)) (sym (ap (first_with other) (when_true (among x) (x ∷ filter among xs) (filter among xs) f)) ∙ none) in
-        ap (first_with test) (when_false (keep x) (x ∷ filter keep xs) (filter keep xs) e) ∙ later both.1
+        let both = none_of_both (other x) (first_with other (filter among xs)) (sym (ap (first_with other) (cond-true (among x) (x ∷ filter among xs) (filter among xs) f)) ∙ none) in
+        ap (first_with test) (cond-false (keep x) (x ∷ filter keep xs) (filter keep xs) e) ∙ later both.1
     go later false e false f =
-        ap (first_with test) (when_false (keep x) (x ∷ filter keep xs) (filter keep xs) e)
-        ∙ later (sym (ap (first_with other) (when_false (among x) (x ∷ filter among xs) (filter among xs) f)) ∙ none)
+        ap (first_with test) (cond-false (keep x) (x ∷ filter keep xs) (filter keep xs) e)
+        ∙ later (sym (ap (first_with other) (cond-false (among x) (x ∷ filter among xs) (filter among xs) f)) ∙ none)
 
 -- So it is with pairs.
 pub pair_kept : {X Y : Type 0} (test other : X → X → Option Y) (keep among : X → Bool) (xs : List X) → ((x : X) → keep x ≡ true → among x ≡ true)
@@ -128,13 +123,13 @@ pair_kept test other keep among (x ∷ xs) within gives none = go (pair_kept tes
   where
     go : (first_pair other (filter among xs) ≡ None → first_pair test (filter keep xs) ≡ None) → (b : Bool) → keep x ≡ b → (c : Bool) → among x ≡ c → first_pair test (filter keep (x ∷ xs)) ≡ None
     go later true e c f =
-        let both = neither (first_with (other x) (filter among xs)) (first_pair other (filter among xs)) (sym (ap (first_pair other) (when_true (among x) (x ∷ filter among xs) (filter among xs) (within x e))) ∙ none) in
-        ap (first_pair test) (when_true (keep x) (x ∷ filter keep xs) (filter keep xs) e)
+        let both = none_of_both (first_with (other x) (filter among xs)) (first_pair other (filter among xs)) (sym (ap (first_pair other) (cond-true (among x) (x ∷ filter among xs) (filter among xs) (within x e))) ∙ none) in
+        ap (first_pair test) (cond-true (keep x) (x ∷ filter keep xs) (filter keep xs) e)
         ∙ none_or (first_with (test x) (filter keep xs)) (first_pair test (filter keep xs))
         (with_kept (test x) (other x) keep among xs within (λ y k. gives x y e k) both.0) (later both.1)
     go later false e true f =
-        let both = neither (first_with (other x) (filter among xs)) (first_pair other (filter among xs)) (sym (ap (first_pair other) (when_true (among x) (x ∷ filter among xs) (filter among xs) f)) ∙ none) in
-        ap (first_pair test) (when_false (keep x) (x ∷ filter keep xs) (filter keep xs) e) ∙ later both.1
+        let both = none_of_both (first_with (other x) (filter among xs)) (first_pair other (filter among xs)) (sym (ap (first_pair other) (cond-true (among x) (x ∷ filter among xs) (filter among xs) f)) ∙ none) in
+        ap (first_pair test) (cond-false (keep x) (x ∷ filter keep xs) (filter keep xs) e) ∙ later both.1
     go later false e false f =
-        ap (first_pair test) (when_false (keep x) (x ∷ filter keep xs) (filter keep xs) e)
-        ∙ later (sym (ap (first_pair other) (when_false (among x) (x ∷ filter among xs) (filter among xs) f)) ∙ none)
+        ap (first_pair test) (cond-false (keep x) (x ∷ filter keep xs) (filter keep xs) e)
+        ∙ later (sym (ap (first_pair other) (cond-false (among x) (x ∷ filter among xs) (filter among xs) f)) ∙ none)

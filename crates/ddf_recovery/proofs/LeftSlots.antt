@@ -3,7 +3,8 @@ use Rattle.std.proofs.Common.{◌≡◌, ℕ, ◌<◌, ◌≤◌, Bool, true, fa
 use Rattle.std.specs.Prelude.{filter, option_map, slice_get}
 use Rattle.std.specs.List.{AllByRecursion, range_with_len}
 use Rattle.std.specs.Option.{option_and_then}
-use Rattle.ddf_bytes.proofs.Nones.{none_map}
+use Rattle.ddf_lemmas.proofs.Lists.{all_from as all_by_get, list_all_from, list_all_read}
+use Rattle.ddf_lemmas.proofs.Options.{none_from_map}
 use Rattle.ddf_bytes.specs.Choices.{first_of}
 use Rattle.ddf_view.specs.Differ.{difference}
 use Rattle.ddf_view.specs.View.{View, lists_current}
@@ -15,7 +16,7 @@ use Rattle.ddf_group.specs.declared.answer.Differ.TheVariants as differs
 use Rattle.ddf_group.specs.Conflicts.{contradiction, differ_at, differ_of, difference_of, differing, has_two, in_conflict, is_concerned, leads_with_two, lists_disk_missing, lists_missing_in, same_reference, split_from, split_in, splits_from, twin_of, twins, two_copies}
 use Rattle.ddf_group.specs.Pairs.{first_pair, first_with}
 use Rattle.ddf_group.specs.Slots.{claimed, claims, claims_by, leaders, leading_view, leads, none_later, numbers, reference_at, sequence_in, shows_group, slot_at, view_in}
-use Rattle.ddf_rewrite.proofs.Lists.{all_by_get, all_from, get_range, list_all_get}
+use Rattle.ddf_rewrite.proofs.Lists.{get_range}
 use Rattle.ddf_recovery.proofs.LeftLists.{IsNoneOf, find_fails, keeps_these, one_or_none, pair_kept, pair_none, with_none}
 use Rattle.ddf_assembly.proofs.SettledLists.{find_kept}
 use Rattle.ddf_assembly.proofs.SettledSeats.{Rise}
@@ -80,7 +81,7 @@ module _ (group : List ℕ) (sequence : ℕ) (before after : List Shown) (first 
   -- A written slot leads.
   leads_written : (slot : ℕ) (view : View) → IsWritten after written slot view → leads after group slot ≡ true
   leads_written slot view is =
-      let all : none_later after group sequence ≡ true = all_from (λ n. not (shows_group group (slot_at after n)) || nat_le (sequence_in (slot_at after n)) sequence) (numbers after) (λ i n at. not_ahead n) in
+      let all : none_later after group sequence ≡ true = list_all_from (λ n. not (shows_group group (slot_at after n)) || nat_le (sequence_in (slot_at after n)) sequence) (numbers after) (λ i n at. not_ahead n) in
       let here : none_later after group view.sequence ≡ true = ap (none_later after group) (left.sequences slot view is) ∙ all in
       subst (λ (shown : Shown). (shows_group group shown && none_later after group (sequence_in shown)) ≡ true) (sym is.shown) (both (shows_group group (Level view)) _ (left.shows slot view is) here)
     where
@@ -95,7 +96,7 @@ module _ (group : List ℕ) (sequence : ℕ) (before after : List Shown) (first 
       by false e = e
       by true e =
           let there = get_range 0 (length after) first (let low = left.within.0 in let long = left.same_length in omega (arith, low, long)) in
-          let passes = list_all_get (λ n. not (shows_group group (slot_at after n)) || nat_le (sequence_in (slot_at after n)) number) (numbers after) first there.0 e there.2 in
+          let passes = list_all_read (λ n. not (shows_group group (slot_at after n)) || nat_le (sequence_in (slot_at after n)) number) (numbers after) first there.0 e there.2 in
           let here : (not (shows_group group (slot_at after first)) || nat_le (sequence_in (slot_at after first)) number) ≡ true = subst (λ (n : ℕ). (not (shows_group group (slot_at after n)) || nat_le (sequence_in (slot_at after n)) number) ≡ true) (there.1 ∙ zero-add first) passes in
           let is = written_at 0 first refl in
           let view = (left.views 0 first refl).0 in
@@ -231,7 +232,7 @@ module _ (group : List ℕ) (sequence : ℕ) (before after : List Shown) (first 
       ap (option_map (λ (reference : ℕ). in_conflict after group i j (differs.Twin reference)))
       (ap (λ (o : Option ℕ). same_reference o (reference_at after j)) (still_concerned i one).1
       ∙ ap (same_reference (reference_at before i)) (still_concerned j other).1
-      ∙ none_map (λ (reference : ℕ). in_conflict before group i j (differs.Twin reference)) (same_reference (reference_at before i) (reference_at before j)) none))
+      ∙ none_from_map (λ (reference : ℕ). in_conflict before group i j (differs.Twin reference)) (same_reference (reference_at before i) (reference_at before j)) none))
       (ap (λ (n : ℕ). first_pair (twin_of before group) (filter (is_concerned before group) (range_with_len 0 n))) left.same_length ∙ left.no_twins)
 
   -- Nothing contradicts the group.

@@ -1,12 +1,14 @@
 -- The slots of a settled group after a step: what its disks show, and what the other slots do.
 use Rattle.std.proofs.Common.{◌≡◌, ◌≢◌, ℕ, zero, suc, ◌<◌, Bool, true, false, not, ◌&&◌, ◌||◌, cond, List, [], ◌∷◌, length, map, filter, fold, Option, Some, None, refl, ap, sym, ◌∙◌, subst, arith, length-set, zero-add}
-use Rattle.std.proofs.lemmas.Bool.{false≢true}
+use Rattle.std.proofs.lemmas.Bool.{false≢true, cond-false, cond-true, or_right}
 use Rattle.std.proofs.lemmas.List.{length-map}
 use Rattle.std.proofs.lemmas.Option.{slice_get-map}
 use Rattle.std.specs.Prelude.{find, option_map, slice_get, unwrap_or}
 use Rattle.std.specs.List.{AllByRecursion}
 use Rattle.std.specs.Option.{option_map_or}
-use Rattle.ddf_bytes.proofs.Nones.{none_first, none_map}
+use Rattle.ddf_lemmas.proofs.Lists.{all_from, filter_get, filter_pass, filtered_passes, in_map, mapped_at}
+use Rattle.ddf_lemmas.proofs.Options.{none_from_map}
+use Rattle.ddf_bytes.proofs.Nones.{none_first}
 use Rattle.ddf_copy.specs.declared.copy.DiskCopy.{DiskCopy}
 use Rattle.ddf_copy.specs.declared.newest_copy.Newest.{Newest}
 use Rattle.ddf_copy.specs.declared.newest_copy.Newest.TheVariants as newests
@@ -21,7 +23,6 @@ use Rattle.ddf_view.specs.Differ.{difference}
 use Rattle.ddf_view.specs.Shows.{shows}
 use Rattle.ddf_view.specs.View.{View, lists_current, view_of}
 use Rattle.ddf_view.proofs.Agreement.{shown_from}
-use Rattle.ddf_view.proofs.Finds.{when_false, when_true}
 use Rattle.ddf_group.specs.declared.shown.Shown.{Shown}
 use Rattle.ddf_group.specs.declared.shown.Shown.TheVariants.{Level, Nothing}
 use Rattle.ddf_group.specs.declared.answer.Assembly.TheVariants.{Split}
@@ -35,7 +36,7 @@ use Rattle.ddf_rewrite.specs.Copies.{changed_copy}
 use Rattle.ddf_rewrite.specs.Hold.{IsHoldable}
 use Rattle.ddf_rewrite.proofs.Agreeing.{copies_agree}
 use Rattle.ddf_rewrite.proofs.Changed.{changed_shows}
-use Rattle.ddf_rewrite.proofs.Lists.{all_at, all_by_get, get_map, get_range, map_get, or_true}
+use Rattle.ddf_rewrite.proofs.Lists.{all_at, get_range}
 use Rattle.ddf_rewrite.proofs.Roomy.{change_can}
 use Rattle.ddf_seats.specs.declared.seated.Seated.{Seated}
 use Rattle.ddf_steps.specs.Asked.{CanBeAsked}
@@ -51,7 +52,7 @@ use Rattle.ddf_seats.specs.Changing.{AreCopies, CanBeHeldOn, SlotsRise}
 use Rattle.ddf_steps.specs.Trying.{CanTry}
 use Rattle.ddf_steps.proofs.CommittedLevels.{level_else, level_here}
 use Rattle.ddf_steps.proofs.Following.{copies_are, next_held, room_for}
-use Rattle.ddf_assembly.proofs.LeftBefore.{HasLeader, IsClaimedDisk, IsFoundAs, all_pass, claimed_current, claimed_disk, current_claimed, disks_claimed, group_is, has_leader, kept_at, leader_claimed, level_at, none_ahead, not_ahead, shows_own, shows_within, view_within}
+use Rattle.ddf_assembly.proofs.LeftBefore.{HasLeader, IsClaimedDisk, IsFoundAs, claimed_current, claimed_disk, current_claimed, disks_claimed, group_is, has_leader, leader_claimed, level_at, none_ahead, not_ahead, shows_own, shows_within, view_within}
 use Rattle.ddf_recovery.proofs.LeftLists.{IsNoneOf}
 use Rattle.ddf_assembly.proofs.LeftMembers.{AreApart, IsCurrentIn, current_from, lists_from, none_missing_from, stays_current, table_current, was_current}
 use Rattle.ddf_recovery.proofs.LeftSlots.{IsLeft, IsWritten}
@@ -62,33 +63,22 @@ use Rattle.ddf_steps.proofs.StepConfig.{has_room, no_cause, still_left, as_raise
 
 -- ---- lists
 
--- What a test keeps is of the list.
-pub from_kept : {X : Type 0} (test : X → Bool) (xs : List X) (k : ℕ) (x : X) → slice_get (filter test xs) k ≡ Some x → (j : ℕ) × (slice_get xs j ≡ Some x)
-from_kept test [] k x at = absurd cc
-from_kept {X = X} test (y ∷ ys) k x at = by (λ i later. from_kept test ys i x later) (test y) refl k at
-  where
-    by : ((i : ℕ) → slice_get (filter test ys) i ≡ Some x → (j : ℕ) × (slice_get ys j ≡ Some x)) → (b : Bool) → test y ≡ b → (i : ℕ) → slice_get (filter test (y ∷ ys)) i ≡ Some x
-        → (j : ℕ) × (slice_get (y ∷ ys) j ≡ Some x)
-    by rest true e zero here = (0, sym (ap (λ (l : List X). slice_get l 0) (when_true (test y) (y ∷ filter test ys) (filter test ys) e)) ∙ here)
-    by rest true e (suc i) here = let later = rest i (sym (ap (λ (l : List X). slice_get l (suc i)) (when_true (test y) (y ∷ filter test ys) (filter test ys) e)) ∙ here) in (suc later.0, later.1)
-    by rest false e i here = let later = rest i (sym (ap (λ (l : List X). slice_get l i) (when_false (test y) (y ∷ filter test ys) (filter test ys) e)) ∙ here) in (suc later.0, later.1)
-
 -- Where a search finds nothing, no item passes.
 none_passes : {X : Type 0} (test : X → Bool) (xs : List X) (i : ℕ) (x : X) → find test xs ≡ None → slice_get xs i ≡ Some x → test x ≡ false
 none_passes test [] i x none at = absurd cc
 none_passes {X = X} test (y ∷ ys) i x none at = by (λ k rest later. none_passes test ys k x rest later) i at (test y) refl
   where
     by : ((k : ℕ) → find test ys ≡ None → slice_get ys k ≡ Some x → test x ≡ false) → (k : ℕ) → slice_get (y ∷ ys) k ≡ Some x → (b : Bool) → test y ≡ b → test x ≡ false
-    by rest k here true e = let found : Some y ≡ None = sym (when_true (test y) (Some y) (find test ys) e) ∙ none in absurd cc
+    by rest k here true e = let found : Some y ≡ None = sym (cond-true (test y) (Some y) (find test ys) e) ∙ none in absurd cc
     by rest zero here false e = let same : y ≡ x = cc in sym (ap test same) ∙ e
-    by rest (suc k) here false e = rest k (sym (when_false (test y) (Some y) (find test ys) e) ∙ none) here
+    by rest (suc k) here false e = rest k (sym (cond-false (test y) (Some y) (find test ys) e) ∙ none) here
 
 -- Where nothing is found of a list, nothing is found of an item.
 none_of : {X Y : Type 0} (test : X → Option Y) (xs : List X) (i : ℕ) (x : X) → first_with test xs ≡ None → slice_get xs i ≡ Some x → test x ≡ None
-none_of test xs i x none at = all_at (λ found. found ≡ None) (map test xs) i (test x) (none_first (map test xs) none) (get_map test xs i x at)
+none_of test xs i x none at = all_at (λ found. found ≡ None) (map test xs) i (test x) (none_first (map test xs) none) (mapped_at test xs i x at)
 
 -- Numbers of seats that rise, rise.
-rise_of : (disks : List Seated) → SlotsRise (seats_in disks) → Rise (slots_in disks)
+pub rise_of : (disks : List Seated) → SlotsRise (seats_in disks) → Rise (slots_in disks)
 rise_of [] rise = tt
 rise_of (disk ∷ disks) rise = (above disks rise.0, rise_of disks rise.1)
   where
@@ -117,7 +107,7 @@ module _ (leaders : Before) (config : Configuration) (timestamp : ℕ) where
       by true below rest = (below, rest)
       by false below rest = rest
 
-long_still : (newest : List (Option Newest)) (disks : List Seated) → length (fold with_level newest disks) ≡ length newest
+pub long_still : (newest : List (Option Newest)) (disks : List Seated) → length (fold with_level newest disks) ≡ length newest
 long_still newest [] = refl
 long_still newest (disk ∷ disks) = long_still (with_level newest disk) disks ∙ length-set newest disk.seat.slot (Some (newests.Level disk.copy))
 
@@ -198,13 +188,13 @@ module _ (group : GroupValue) (are : AreNewest group.newest) (settled : IsSettle
   pub made_is : (k : ℕ) (made : Seated) → slice_get new k ≡ Some made → IsMade made
   unfolding disks_after
   made_is k made at =
-      let own = map_get (rewritten led next timestamp) (filter (stays_in next) disks) k made at in
-      let here = from_kept (stays_in next) disks k own.0 own.1 in
+      let own = in_map (rewritten led next timestamp) (filter (stays_in next) disks) k made at in
+      let here = filter_get (stays_in next) disks k own.0 own.1 in
       record {
         place = here.0;
         disk = own.0;
         at = here.1;
-        stays = all_at (λ (one : Seated). stays_in next one ≡ true) (filter (stays_in next) disks) k own.0 (all_pass (stays_in next) disks) own.1;
+        stays = all_at (λ (one : Seated). stays_in next one ≡ true) (filter (stays_in next) disks) k own.0 (filter_pass (stays_in next) disks) own.1;
         is_made = own.2;
       }
 
@@ -287,9 +277,9 @@ module _ (group : GroupValue) (are : AreNewest group.newest) (settled : IsSettle
         let below = shows_within guid slots made.seat.slot (first_true (shows_group guid (slot_at slots made.seat.slot)) _ led_before) in
         let there = get_range 0 (length slots) made.seat.slot below in
         let number : slice_get (numbers slots) made.seat.slot ≡ Some made.seat.slot = there.2 ∙ ap (λ (n : ℕ). Some n) (there.1 ∙ zero-add made.seat.slot) in
-        let place = kept_at (leads slots guid) (numbers slots) made.seat.slot made.seat.slot number led_before in
+        let place = filtered_passes (leads slots guid) (numbers slots) made.seat.slot made.seat.slot number led_before in
         let none = none_of (split_from slots guid) (leaders slots guid) place.0 made.seat.slot parts.1.1.1.0 place.1 in
-        let not_found = none_map (λ (one : ℕ). Split made.seat.slot one) (find (splits_from slots guid made.seat.slot) (numbers slots)) none in
+        let not_found = none_from_map (λ (one : ℕ). Split made.seat.slot one) (find (splits_from slots guid made.seat.slot) (numbers slots)) none in
         let its = get_range 0 (length slots) slot (shows_within guid slots slot shown) in
         let fails = none_passes (splits_from slots guid made.seat.slot) (numbers slots) slot slot not_found (its.2 ∙ ap (λ (n : ℕ). Some n) (its.1 ∙ zero-add slot)) in
         let view : view_in (slot_at slots made.seat.slot) ≡ Some (view_of own.disk.copy) = ap view_in shown_before in
@@ -349,7 +339,7 @@ module _ (group : GroupValue) (are : AreNewest group.newest) (settled : IsSettle
   -- Any other slot shows what it did.
   pub shown_else : (slot : ℕ) → IsNoneOf (slots_in new) slot → slot_at after slot ≡ slot_at slots slot
   shown_else slot none =
-      let same = level_else group.newest new slot (λ k made at. all_at (λ (n : ℕ). slot ≢ n) (slots_in new) k made.seat.slot none (get_map (λ (one : Seated). one.seat.slot) new k made at)) in
+      let same = level_else group.newest new slot (λ k made at. all_at (λ (n : ℕ). slot ≢ n) (slots_in new) k made.seat.slot none (mapped_at (λ (one : Seated). one.seat.slot) new k made at)) in
       ap (λ (one : Option Shown). unwrap_or one Nothing)
       (slice_get-map shown_of (fold with_level group.newest new) slot ∙ ap (option_map shown_of) same ∙ sym (slice_get-map shown_of group.newest slot))
 
@@ -362,7 +352,7 @@ module _ (group : GroupValue) (are : AreNewest group.newest) (settled : IsSettle
 
   pub slot_of : (place slot : ℕ) → slice_get (slots_in new) place ≡ Some slot → IsOf slot
   slot_of place slot at =
-      let own = map_get (λ (one : Seated). one.seat.slot) new place slot at in
+      let own = in_map (λ (one : Seated). one.seat.slot) new place slot at in
       record { place = place; made = own.0; at = own.1; same_slot = own.2 }
 
   pub made_of : (slot : ℕ) → (of : IsOf slot) → IsMade of.made
@@ -381,8 +371,8 @@ module _ (group : GroupValue) (are : AreNewest group.newest) (settled : IsSettle
   pub stays_made : (k : ℕ) (disk : Seated) → slice_get disks k ≡ Some disk → stays_in next disk ≡ true → (j : ℕ) × (slice_get new j ≡ Some (rewritten led next timestamp disk))
   unfolding disks_after
   stays_made k disk at stays =
-      let kept_there = kept_at (stays_in next) disks k disk at stays in
-      (kept_there.0, get_map (rewritten led next timestamp) (filter (stays_in next) disks) kept_there.0 disk kept_there.1)
+      let kept_there = filtered_passes (stays_in next) disks k disk at stays in
+      (kept_there.0, mapped_at (rewritten led next timestamp) (filter (stays_in next) disks) kept_there.0 disk kept_there.1)
 
   -- What a written view lists of a slot that wasn't written.
   foreign : (made : Seated) → IsMade made → (slot : ℕ) → IsNoneOf (slots_in new) slot → claims_by (Some (view_of made.copy)) (slot_at slots slot) ≡ false
@@ -402,7 +392,7 @@ module _ (group : GroupValue) (are : AreNewest group.newest) (settled : IsSettle
           ap (λ (seat : Seat). seat.reference) its.is_seat ∙ own_reference disk.1.seat.slot disk.1.copy ∙ ap (λ (one : View). one.reference) (sym is_view) in
           let stays : stays_in next disk.1 ≡ true = ap (is_current next.members) reference ∙ table_current next.members view.guid view.reference (apart_next made own) now in
           let there = stays_made disk.0 disk.1 disk.2 stays in
-          absurd (all_at (λ (n : ℕ). slot ≢ n) (slots_in new) there.0 disk.1.seat.slot none (get_map (λ (one : Seated). one.seat.slot) new there.0 (rewritten led next timestamp disk.1) there.1) (sym disk.3))
+          absurd (all_at (λ (n : ℕ). slot ≢ n) (slots_in new) there.0 disk.1.seat.slot none (mapped_at (λ (one : Seated). one.seat.slot) new there.0 (rewritten led next timestamp disk.1) there.1) (sym disk.3))
 
       by : (found_view : Option View) → view_in (slot_at slots slot) ≡ found_view → claims_by (Some (view_of made.copy)) (slot_at slots slot) ≡ false
       by None e = ap (λ (one : Option View). option_map_or (λ (disk : View). lists_current (view_of made.copy) disk.guid disk.reference) one false) e
@@ -443,7 +433,7 @@ module _ (group : GroupValue) (are : AreNewest group.newest) (settled : IsSettle
   left some first = record {
     same_length = length-map (fold with_level group.newest new) shown_of ∙ long_still group.newest new ∙ sym (length-map group.newest shown_of);
     rise = rise_of new slots_rise;
-    within = all_by_get (λ (slot : ℕ). slot < length slots) (slots_in new)
+    within = all_from (λ (slot : ℕ). slot < length slots) (slots_in new)
         (λ k slot at.
         let of = slot_of k slot at in
         let below = slot_below of.place of.made of.at in
@@ -483,7 +473,7 @@ module _ (group : GroupValue) (are : AreNewest group.newest) (settled : IsSettle
         (subst (λ (view : View). difference view (view_of its.0.made.copy) ≡ None) of.1 (agrees of.0.made its.0.made (made_of i of.0) (made_of j its.0)));
     were_concerned = λ place slot at.
         let of = slot_of place slot at in
-        or_true (shows_group guid (slot_at slots slot)) (claims slots guid slot) (sym (ap (claims slots guid) of.same_slot) ∙ was_claimed of.made (made_of slot of));
+        or_right (shows_group guid (slot_at slots slot)) (claims slots guid slot) (sym (ap (claims slots guid) of.same_slot) ∙ was_claimed of.made (made_of slot of));
     same_references = λ place slot at.
         let of = slot_of place slot at in
         let own = made_of slot of in

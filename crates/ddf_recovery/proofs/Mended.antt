@@ -1,6 +1,7 @@
 -- The disks of an assembled group that lag, with the copies that recovery gives them.
 use Rattle.std.proofs.Common.{◌≡◌, ℕ, ◌<◌, ◌^◌, Bool, true, false, cond, List, [], ◌∷◌, map, filter, fold, Option, Some, None, refl, sym, ap, subst, ◌∙◌, if◌then◌else◌}
 use Rattle.std.specs.List.{AllByRecursion}
+use Rattle.ddf_lemmas.proofs.Lists.{all_filter, all_weaken, all_both}
 use Rattle.ddf_config.specs.declared.refusal.FullTable.{FullTable}
 use Rattle.ddf_config.specs.declared.refusal.FullTable.TheVariants.{Records}
 use Rattle.ddf_config.specs.declared.seat.Seat.{Seat}
@@ -35,9 +36,6 @@ use Rattle.ddf_steps.specs.Ready.{ReadyStep}
 use Rattle.ddf_seats.specs.Seated.{seated, seats_in, levelled}
 use Rattle.ddf_steps.specs.Steps.{Step, in_order, mode_of}
 use Rattle.ddf_steps.specs.Trying.{ArePrepared, Follows, HasPlace}
-use Rattle.ddf_view.proofs.Tests.{all_map}
-use Rattle.ddf_steps.proofs.Following.{both_all}
-use Rattle.ddf_seats.proofs.Lists.{filter_have}
 use Rattle.ddf_assembly.proofs.Leaders.{held_on, leading_fit, leading_many, led_on}
 use Rattle.ddf_steps.proofs.OneLength.{lesser_none, one_length, own_length}
 use Rattle.ddf_steps.proofs.Rewritten.{changed_own, closed_can, closed_under, closed_view, places_under}
@@ -193,17 +191,17 @@ module _ (timestamp : ℕ) (time : timestamp < 2 ^ 32) (group : GroupValue) (is 
   mendable =
       let room = mending_room group free in
       all_mendable kept
-      (filter_have (CanMend leaders group.config) (lags group) (seated group) (can_mend_all group is room.same)) room.none
+      (all_filter (CanMend leaders group.config) (lags group) (seated group) (can_mend_all group is room.same)) room.none
 
   made_have : (P : Seated → Type 0) → ((disk : Seated) → Mendable disk → P (mended leaders group.config timestamp disk)) → AllByRecursion P made
   made_have P gives =
-      all_mapped P (mended leaders group.config timestamp) kept (all_map Mendable (λ disk. P (mended leaders group.config timestamp disk)) gives kept mendable)
+      all_mapped P (mended leaders group.config timestamp) kept (all_weaken Mendable (λ disk. P (mended leaders group.config timestamp disk)) gives kept mendable)
 
   made_both : (P Q : Seated → Type 0) → ((disk : Seated) → Mendable disk → P disk → Q (mended leaders group.config timestamp disk)) → AllByRecursion P (seated group) → AllByRecursion Q made
   made_both P Q gives all =
       all_mapped Q (mended leaders group.config timestamp) kept
-      (all_map (λ disk. Mendable disk × P disk) (λ disk. Q (mended leaders group.config timestamp disk)) (λ disk both. gives disk both.0 both.1) kept
-      (both_all Mendable P kept mendable (filter_have P (lags group) (seated group) all)))
+      (all_weaken (λ disk. Mendable disk × P disk) (λ disk. Q (mended leaders group.config timestamp disk)) (λ disk both. gives disk both.0 both.1) kept
+      (all_both Mendable P kept mendable (all_filter P (lags group) (seated group) all)))
 
   -- The copies that the disks get can be written.
   pub made_copies : AreCopies made
@@ -275,15 +273,15 @@ module _ (timestamp : ℕ) (time : timestamp < 2 ^ 32) (group : GroupValue) (is 
   all_or_kept : (P : Seated → Type 0) → AllByRecursion (λ disk. lags group disk ≡ false → P disk) (seated group) → ((disk : Seated) → Mendable disk → P (levelled (mended leaders group.config timestamp disk))) → AllByRecursion P (map or_kept (seated group))
   all_or_kept P all gives =
       all_mapped P or_kept (seated group)
-      (all_map (λ disk. (lags group disk ≡ false → P disk) × (lags group disk ≡ true → Mendable disk)) (λ disk. P (or_kept disk)) (λ disk both. by_lagging P disk both.0 (λ h. gives disk (both.1 h))) (seated group)
-      (both_all (λ disk. lags group disk ≡ false → P disk) (λ disk. lags group disk ≡ true → Mendable disk) (seated group) all each_mendable))
+      (all_weaken (λ disk. (lags group disk ≡ false → P disk) × (lags group disk ≡ true → Mendable disk)) (λ disk. P (or_kept disk)) (λ disk both. by_lagging P disk both.0 (λ h. gives disk (both.1 h))) (seated group)
+      (all_both (λ disk. lags group disk ≡ false → P disk) (λ disk. lags group disk ≡ true → Mendable disk) (seated group) all each_mendable))
 
   -- What doesn't lag is of the group.
   kept_own : AllByRecursion (λ disk. lags group disk ≡ false → IsOfGroup group.config disk) (seated group)
   kept_own =
-      all_map (λ disk. CanBeCopy disk.copy × (lags group disk ≡ false → IsAsGroup group disk)) (λ disk. lags group disk ≡ false → IsOfGroup group.config disk)
+      all_weaken (λ disk. CanBeCopy disk.copy × (lags group disk ≡ false → IsAsGroup group disk)) (λ disk. lags group disk ≡ false → IsOfGroup group.config disk)
       (λ disk both stays. record { is_copy = both.0; same_group = same_group group.config disk.copy (both.1 stays).is_shown }) (seated group)
-      (both_all (λ disk. CanBeCopy disk.copy) (λ disk. lags group disk ≡ false → IsAsGroup group disk) (seated group) is.are_copies is.unless_lags)
+      (all_both (λ disk. CanBeCopy disk.copy) (λ disk. lags group disk ≡ false → IsAsGroup group disk) (seated group) is.are_copies is.unless_lags)
 
   -- Changes may be tried on the disks behind it.
   pub mended_changed : CanBeChanged group.config (map or_kept (seated group))
@@ -293,6 +291,6 @@ module _ (timestamp : ℕ) (time : timestamp < 2 ^ 32) (group : GroupValue) (is 
       record {
         of_group = all_or_kept (IsOfGroup group.config) kept_own (λ disk able. record { is_copy = (mended_of disk able).is_copy; same_group = (mended_of disk able).same_group });
         can_hold = all_or_kept (λ disk. HaveLength (record_length disk) (map or_kept (seated group)) → IsHoldable disk.copy.header.geometry.max_members group.config)
-            (all_map (CanMend leaders group.config) (λ disk. lags group disk ≡ false → HaveLength (record_length disk) (map or_kept (seated group)) → IsHoldable disk.copy.header.geometry.max_members group.config) (λ disk one stays same. one.holdable) (seated group) can)
+            (all_weaken (CanMend leaders group.config) (λ disk. lags group disk ≡ false → HaveLength (record_length disk) (map or_kept (seated group)) → IsHoldable disk.copy.header.geometry.max_members group.config) (λ disk one stays same. one.holdable) (seated group) can)
             (λ disk able same. mended_holds disk able);
       }

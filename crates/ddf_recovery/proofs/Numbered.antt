@@ -1,6 +1,6 @@
 -- The sequence numbers of the steps that changes of a group are.
-use Rattle.std.proofs.Common.{◌≡◌, ℕ, ◌<◌, ◌≤◌, Bool, true, false, ◌||◌, List, [], ◌∷◌, map, Option, Some, None, Result, Ok, Err, refl, sym, ap, subst, ◌∙◌, if◌then◌else◌, arith}
-use Rattle.std.proofs.lemmas.Bool.{false≢true, ltb-false}
+use Rattle.std.proofs.Common.{◌≡◌, ℕ, ◌<◌, ◌≤◌, Bool, true, false, List, [], ◌∷◌, map, Option, Some, None, Result, Ok, Err, refl, sym, ap, subst, ◌∙◌, if◌then◌else◌, arith}
+use Rattle.std.proofs.lemmas.Bool.{ltb-false, or_parts}
 use Rattle.std.specs.List.{list_any}
 use Rattle.ddf_config.specs.declared.refusal.Refusal.{Refusal}
 use Rattle.ddf_config.specs.Configuration.{Configuration}
@@ -22,12 +22,8 @@ use Rattle.ddf_recovery.specs.Ready.{readied}
 use Rattle.ddf_recovery.proofs.Recovered.{settled_readied}
 
 -- A sequence number that isn't spent was raised.
-raised_above : (sequence steps : ℕ) → 0 < steps → raised sequence steps ≤ greatest_sequence → sequence < raised sequence steps
+pub raised_above : (sequence steps : ℕ) → 0 < steps → raised sequence steps ≤ greatest_sequence → sequence < raised sequence steps
 raised_above sequence steps some within = grind arith
-
-neither : (a b : Bool) → (a || b) ≡ false → (a ≡ false) × (b ≡ false)
-neither true b h = absurd (false≢true (sym h))
-neither false b h = (refl, h)
 
 -- a step that isn't spent, with steps behind it
 with_numbered : (sequence : ℕ) (step : Step) (rest : Result (List Step) Refusal) (steps : List Step) → (is_spent step ≡ false → sequence < step.config.sequence)
@@ -36,7 +32,7 @@ with_numbered : (sequence : ℕ) (step : Step) (rest : Result (List Step) Refusa
 with_numbered sequence step (Err refusal) steps above later is free = absurd cc
 with_numbered sequence step (Ok others) steps above later is free =
     let same : (step ∷ others) ≡ steps = cc in
-    let parts = neither (is_spent step) (list_any is_spent others) (ap (list_any is_spent) same ∙ free) in
+    let parts = or_parts (is_spent step) (list_any is_spent others) (ap (list_any is_spent) same ∙ free) in
     subst (AreNumbered sequence) same (above parts.0, ltb-false greatest_sequence step.config.sequence parts.0, later others refl parts.1)
 
 module _ (timestamp : ℕ) (config : Configuration) (disks : List Seated) (change : Change) (changes : List Change) where

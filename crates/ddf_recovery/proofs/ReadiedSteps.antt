@@ -18,13 +18,14 @@ use Rattle.ddf_recovery.specs.Ready.{readied, with_recovery}
 use Rattle.ddf_recovery.specs.Recovery.{config_lost, config_recovered, disks_recovered, full_of_recovery, has_stray, loss_spent, recovery_of}
 use Rattle.ddf_seats.specs.Leading.{some}
 use Rattle.ddf_steps.specs.Steps.{Step}
-use Rattle.ddf_recovery.proofs.CommittedReadied.{raised_more, steps_or_spent}
+use Rattle.ddf_recovery.proofs.CommittedReadied.{steps_or_spent}
 use Rattle.ddf_recovery.proofs.WhenFull.{full_first}
+use Rattle.ddf_recovery.proofs.Numbered.{raised_above}
 
 abbrev Steps : Type 0
 Steps = Result (List Step) Refusal
 
-abbrev Answer : Type 0
+abbrev pub Answer : Type 0
 Answer = Result (List Step) GroupFault
 
 -- Where a table is full changes are refused.
@@ -100,4 +101,4 @@ module _ (group : GroupValue) (changes : List Change) (timestamp : ℕ) (steps :
   loss_rises step next lost =
       let unspent : nat_lt greatest_sequence (config_lost group).sequence ≡ false =
       sym (ap (λ (b : Bool). b && nat_lt greatest_sequence (config_lost group).sequence) lost) ∙ parts.not_spent step next in
-      raised_more group.config.sequence 2 (omega arith) (ltb-false greatest_sequence (config_lost group).sequence unspent)
+      raised_above group.config.sequence 2 (omega arith) (ltb-false greatest_sequence (config_lost group).sequence unspent)

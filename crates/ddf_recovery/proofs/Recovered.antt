@@ -1,8 +1,9 @@
 -- Where a group is settled there is nothing to be recovered.
 use Rattle.std.proofs.Common.{◌≡◌, ℕ, ◌+◌, ◌≤◌, Bool, true, false, not, ◌&&◌, ◌||◌, nat_le, nat_lt, List, [], ◌∷◌, map, Option, None, Err, refl, sym, ap, ◌∙◌, arith, if◌then◌else◌}
-use Rattle.std.proofs.lemmas.Bool.{leb-false}
+use Rattle.std.proofs.lemmas.Bool.{leb-false, or_parts}
 use Rattle.std.specs.List.{AllByRecursion, list_any}
 use Rattle.std.specs.Str.{bytes_eq}
+use Rattle.ddf_lemmas.proofs.Lists.{all_weaken, bytes_same}
 use Rattle.ddf_config.specs.declared.refusal.Refusal.TheVariants.{Unsettled}
 use Rattle.ddf_config.specs.Configuration.{Configuration}
 use Rattle.ddf_plan.specs.declared.change.Change.{Change}
@@ -10,7 +11,6 @@ use Rattle.ddf_plan.specs.Refusals.{greatest_sequence}
 use Rattle.ddf_view.specs.Reading.{are_noted}
 use Rattle.ddf_view.specs.Shows.{shows}
 use Rattle.ddf_view.specs.View.{view_of}
-use Rattle.ddf_view.proofs.Tests.{all_map, bytes_same}
 use Rattle.ddf_copy.specs.declared.newest_copy.Newest.{Newest}
 use Rattle.ddf_group.specs.declared.shown.Shown.{Shown}
 use Rattle.ddf_group.specs.Taking.{shows_untaken}
@@ -28,12 +28,6 @@ use Rattle.ddf_assembly.specs.Settled.{IsLevelIn, IsSettledGroup}
 use Rattle.ddf_steps.specs.Trying.{DoShow}
 use Rattle.ddf_seats.specs.Changing.{IsOfGroup}
 use Rattle.ddf_assembly.proofs.SettledSeats.{same_sequence}
-
--- ---- tests
-
-neither : (a b : Bool) → (a || b) ≡ false → (a ≡ false) × (b ≡ false)
-neither true b h = absurd cc
-neither false b h = (refl, h)
 
 -- ---- disks that recovery can't write
 
@@ -102,10 +96,10 @@ own_from config disk h = by (bytes_eq disk.copy.header.guid config.group) refl (
 pub all_own : (slots : List Shown) (newest : List (Option Newest)) (noted : Bool) (config : Configuration) (disks : List Seated) → list_any (is_stray slots newest noted config) disks ≡ false → AllByRecursion (IsOwn config) disks
 all_own slots newest noted config [] none = tt
 all_own slots newest noted config (disk ∷ disks) none =
-    let parts = neither (is_stray slots newest noted config disk) (list_any (is_stray slots newest noted config) disks) none in
-    let causes = neither (is_ahead config disk || is_of_another slots config disk || holds_only_record newest config disk) (is_stale noted config disk) parts.0 in
-    let two = neither (is_ahead config disk || is_of_another slots config disk) (holds_only_record newest config disk) causes.0 in
-    (own_from config disk (neither (is_ahead config disk) (is_of_another slots config disk) two.0).0, all_own slots newest noted config disks parts.1)
+    let parts = or_parts (is_stray slots newest noted config disk) (list_any (is_stray slots newest noted config) disks) none in
+    let causes = or_parts (is_ahead config disk || is_of_another slots config disk || holds_only_record newest config disk) (is_stale noted config disk) parts.0 in
+    let two = or_parts (is_ahead config disk || is_of_another slots config disk) (holds_only_record newest config disk) causes.0 in
+    (own_from config disk (or_parts (is_ahead config disk) (is_of_another slots config disk) two.0).0, all_own slots newest noted config disks parts.1)
 
 -- ---- a group that is settled
 
@@ -144,7 +138,7 @@ module _ (group : GroupValue) (none_absent : group.absent ≡ []) (none_lags : g
 
 -- The disks of a settled group show its configuration.
 shown : (group : GroupValue) → IsSettledGroup group → DoShow group.config (seated group)
-shown group is = all_map (IsLevelIn group) (λ (disk : Seated). shows group.config (view_of disk.copy) ≡ true) (λ disk level. level.is_shown) (seated group) is.are_level
+shown group is = all_weaken (IsLevelIn group) (λ (disk : Seated). shows group.config (view_of disk.copy) ≡ true) (λ disk level. level.is_shown) (seated group) is.are_level
 
 -- The steps of a settled group are those of its changes.
 pub settled_readied : (group : GroupValue) → IsSettledGroup group → (changes : List Change) (timestamp : ℕ)

@@ -3,6 +3,7 @@ use Rattle.std.proofs.Common.{◌≡◌, ◌≢◌, ℕ, ◌<◌, Bool, true, fa
 use Rattle.std.specs.Prelude.{filter_map, slice_get}
 use Rattle.std.specs.List.{AllByRecursion, list_any}
 use Rattle.std.specs.Option.{option_and_then}
+use Rattle.ddf_lemmas.proofs.Lists.{all_from, filter_all, filter_pass, filtered_passes, in_map, mapped_at}
 use Rattle.ddf_config.specs.declared.seat.Seat.{Seat}
 use Rattle.ddf_config.specs.Configuration.{Configuration}
 use Rattle.ddf_copy.specs.declared.newest_copy.Newest.{Newest}
@@ -12,7 +13,7 @@ use Rattle.ddf_copy.specs.declared.which.Which.TheVariants.{Secondary}
 use Rattle.ddf_copy.specs.Shows.{last_of}
 use Rattle.ddf_view.specs.Shows.{shows}
 use Rattle.ddf_view.specs.View.{view_of}
-use Rattle.ddf_rewrite.proofs.Lists.{all_at, all_by_get, all_mapped, get_map, map_get, some_same}
+use Rattle.ddf_rewrite.proofs.Lists.{all_at, all_mapped, some_same}
 use Rattle.ddf_update.specs.declared.prepared.Mode.{Mode}
 use Rattle.ddf_update.specs.declared.prepared.Mode.TheVariants.{Change}
 use Rattle.ddf_seats.specs.declared.seated.Seated.{Seated}
@@ -23,10 +24,8 @@ use Rattle.ddf_seats.specs.Leading.{lags, leading}
 use Rattle.ddf_recovery.specs.Recovery.{mended, mended_or_kept, mending_step}
 use Rattle.ddf_steps.specs.Trying.{DoShow}
 use Rattle.ddf_seats.specs.Changing.{SlotsRise}
-use Rattle.ddf_steps.proofs.CommittedLevels.{filter_all, level_else, level_here}
+use Rattle.ddf_steps.proofs.CommittedLevels.{level_else, level_here}
 use Rattle.ddf_seats.proofs.CommittedSeats.{seated_is}
-use Rattle.ddf_assembly.proofs.LeftBefore.{kept_at}
-use Rattle.ddf_seats.proofs.Lists.{filter_pass}
 use Rattle.ddf_recovery.proofs.WhenFull.{mended_seat, seats_same}
 
 -- A disk's slot has its copy in both places, level, and this shows the configuration.
@@ -54,13 +53,13 @@ module _ (timestamp : ℕ) (group : GroupValue) (is : IsAssembledGroup group) (r
   -- The disk of a seat that lags is one of those that are written.
   written_at : (k : ℕ) (disk : Seated) → slice_get (seated group) k ≡ Some disk → lags group disk ≡ true → (j : ℕ) × (slice_get made j ≡ Some (write disk))
   written_at k disk at lagging =
-      let kept = kept_at (lags group) (seated group) k disk at lagging in
-      (kept.0, get_map write (filter (lags group) (seated group)) kept.0 disk kept.1)
+      let kept = filtered_passes (lags group) (seated group) k disk at lagging in
+      (kept.0, mapped_at write (filter (lags group) (seated group)) kept.0 disk kept.1)
 
   -- That of any other isn't.
   not_written : (disk : Seated) → lags group disk ≡ false → (j : ℕ) (other : Seated) → slice_get made j ≡ Some other → disk.seat.slot ≢ other.seat.slot
   not_written disk kept j other at = λ (same : disk.seat.slot ≡ other.seat.slot).
-      let found = map_get write (filter (lags group) (seated group)) j other at in
+      let found = in_map write (filter (lags group) (seated group)) j other at in
       let lagging = all_at (λ (one : Seated). lags group one ≡ true) (filter (lags group) (seated group)) j found.0 (filter_pass (lags group) (seated group)) found.1 in
       let slot : found.0.seat.slot ≡ disk.seat.slot = ap (λ (one : Seated). one.seat.slot) found.2 ∙ sym same in
       let no : true ≡ false = sym lagging ∙ ap (λ (n : ℕ). list_any (λ one. eqb one n) group.lagging) slot ∙ kept in
@@ -114,7 +113,7 @@ module _ (timestamp : ℕ) (group : GroupValue) (is : IsAssembledGroup group) (r
   pub mended_level : AllByRecursion (IsLevelAt newest group.config) (map (mended_or_kept timestamp group) (seated group))
   mended_level =
       all_mapped (IsLevelAt newest group.config) (mended_or_kept timestamp group) (seated group)
-      (all_by_get (λ (disk : Seated). IsLevelAt newest group.config (mended_or_kept timestamp group disk)) (seated group) each)
+      (all_from (λ (disk : Seated). IsLevelAt newest group.config (mended_or_kept timestamp group disk)) (seated group) each)
     where
       each : (k : ℕ) (disk : Seated) → slice_get (seated group) k ≡ Some disk → IsLevelAt newest group.config (mended_or_kept timestamp group disk)
       each k disk at = by (lags group disk) refl

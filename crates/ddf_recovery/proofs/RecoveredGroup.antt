@@ -2,14 +2,14 @@
 use Rattle.std.proofs.Common.{◌≡◌, ℕ, ◌<◌, Bool, true, false, List, [], ◌∷◌, length, map, fold, Option, Some, None, refl, sym, ap, subst, ◌∙◌, if◌then◌else◌}
 use Rattle.std.specs.Prelude.{IfSome, option_map, slice_get}
 use Rattle.std.specs.List.{AllByRecursion}
+use Rattle.ddf_lemmas.proofs.Lists.{all_from, all_weaken}
 use Rattle.ddf_config.specs.declared.seat.Seat.{Seat}
 use Rattle.ddf_config.specs.Configuration.{Configuration}
 use Rattle.ddf_copy.specs.declared.newest_copy.Newest.{Newest}
 use Rattle.ddf_plan.specs.declared.change.Change.{Change}
 use Rattle.ddf_view.specs.Shows.{shows}
 use Rattle.ddf_view.specs.View.{view_of}
-use Rattle.ddf_view.proofs.Tests.{all_map}
-use Rattle.ddf_rewrite.proofs.Lists.{all_at, all_by_get, all_mapped}
+use Rattle.ddf_rewrite.proofs.Lists.{all_at, all_mapped}
 use Rattle.ddf_seats.specs.declared.seated.Seated.{Seated}
 use Rattle.ddf_steps.specs.Committed.{AreRewriting, DoRise, IsRewritten}
 use Rattle.ddf_recovery.specs.Committed.{IsReadyFor, WasReadied, group_recovered}
@@ -46,7 +46,7 @@ settled_by group none_absent none_lags rise seats can level = record {
   slots_rise = rise;
   are_seated = seats;
   can_be_changed = can;
-  are_level = all_map (IsLevelAt group.newest group.config) (IsLevelIn group)
+  are_level = all_weaken (IsLevelAt group.newest group.config) (IsLevelIn group)
       (λ disk is. record { is_newest = is.0; is_shown = is.1; same_sequence = same_sequence group.config disk.copy is.1 }) (seated group) level;
 }
 
@@ -106,7 +106,7 @@ module _ (group : GroupValue) (changes : List Change) (timestamp : ℕ) (ready :
     replaces = recovery_replace timestamp group was.assembled (own group changes timestamp ready was) (loss_rises group changes timestamp ready was one e) one is_step
 
     pub rewriting : AllByRecursion (IsRewritten (seated group) one.step.config) one.step.disks
-    rewriting = all_map (MayReplace group one.step.config) (IsRewritten (seated group) one.step.config) (λ disk may. may.rewrites) one.step.disks replaces
+    rewriting = all_weaken (MayReplace group one.step.config) (IsRewritten (seated group) one.step.config) (λ disk may. may.rewrites) one.step.disks replaces
 
     abbrev newest : List (Option Newest)
     newest = fold with_level group.newest one.step.disks
@@ -128,7 +128,7 @@ module _ (group : GroupValue) (changes : List Change) (timestamp : ℕ) (ready :
     lost_level : AllByRecursion (IsLevelAt newest one.step.config) (map levelled one.step.disks)
     lost_level =
         all_mapped (IsLevelAt newest one.step.config) levelled one.step.disks
-        (all_by_get (λ (disk : Seated). IsLevelAt newest one.step.config (levelled disk)) one.step.disks
+        (all_from (λ (disk : Seated). IsLevelAt newest one.step.config (levelled disk)) one.step.disks
         (λ k disk at. (
           level_here group.newest one.step.disks one_rise k disk at (one_within k disk at),
           all_at (λ (other : Seated). shows one.step.config (view_of other.copy) ≡ true) one.step.disks k disk recovery_follows.show at,

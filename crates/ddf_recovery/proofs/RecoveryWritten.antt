@@ -3,6 +3,7 @@ use Rattle.std.proofs.Common.{◌≡◌, ℕ, Bool, true, false, List, [], lengt
 use Rattle.std.proofs.Math.Path.{fun_ext}
 use Rattle.std.specs.Prelude.{slice_get}
 use Rattle.std.specs.List.{AllByRecursion}
+use Rattle.ddf_lemmas.proofs.Lists.{in_map, mapped_at}
 use Rattle.ddf_bay.specs.State.{BayState, size_of}
 use Rattle.ddf_copy.specs.declared.newest_copy.Newest.{Newest}
 use Rattle.ddf_copy.specs.Copies.{newest_of}
@@ -10,7 +11,7 @@ use Rattle.ddf_copy.specs.Shows.{IsNewest}
 use Rattle.ddf_config.specs.declared.seat.Seat.{Seat}
 use Rattle.ddf_config.specs.Seats.{SeatsFit}
 use Rattle.ddf_plan.specs.declared.change.Change.{Change}
-use Rattle.ddf_rewrite.proofs.Lists.{all_at, get_map, map_get}
+use Rattle.ddf_rewrite.proofs.Lists.{all_at}
 use Rattle.ddf_update.specs.Changes.{AreChanged, MayGet, SlotChange}
 use Rattle.ddf_update.specs.Group.{IsOneOf, LieOnSlots}
 use Rattle.ddf_update.proofs.Getting.{has_old}
@@ -41,7 +42,7 @@ synced_holds : {D : Type 0} (state : BayState D) (group : GroupValue) → AreHel
 synced_holds state group held under = record {
   are_held = λ slot newest at. let is = held slot newest at in record { anchor = is.anchor; is_anchored = is.is_anchored; is_newest = is.is_newest };
   are_under = λ slot newest at anchor anchored. under slot newest at anchor anchored;
-  are_settled = λ place seat below at l bytes left. left.1 place (get_map (λ (one : Seat). one.slot) group.seats place seat at);
+  are_settled = λ place seat below at l bytes left. left.1 place (mapped_at (λ (one : Seat). one.slot) group.seats place seat at);
 }
 
 -- ---- the seats behind a recovery
@@ -61,7 +62,7 @@ recovered_seat group one rewrites place seat at = by (some group.absent) at
   where
     by : (b : Bool) → slice_get (if b then seats_in one.step.disks else group.seats) place ≡ Some seat → (j : ℕ) × (slice_get group.seats j ≡ Some seat)
     by true h =
-        let found = map_get (λ (disk : Seated). disk.seat) one.step.disks place seat h in
+        let found = in_map (λ (disk : Seated). disk.seat) one.step.disks place seat h in
         let among = seat_among group one rewrites place found.0 found.1 in
         (among.0, among.1 ∙ ap (λ (one_seat : Seat). Some one_seat) found.2)
     by false h = (place, h)
@@ -88,10 +89,10 @@ module _ (group : GroupValue) (changes : List Change) (timestamp : ℕ) (ready :
   on_seats_by : (next : Option ReadyStep) (steps : List ReadyStep) → ready.recovery ≡ next → (slot : ℕ) → IsOneOf (recovery_slots (record { recovery = next; steps = steps })) slot → IsOneOf (slots_of group.seats) slot
   on_seats_by None steps e slot of = let none = of.is_there in absurd cc
   on_seats_by (Some one) steps e slot of =
-      let found = map_get (λ (disk : Seated). disk.seat.slot) (in_order one.step.disks) of.place slot of.is_there in
+      let found = in_map (λ (disk : Seated). disk.seat.slot) (in_order one.step.disks) of.place slot of.is_there in
       let from = order_from one.step.disks of.place found.0 found.1 in
       let among = seat_among group one (rewriting group changes timestamp ready was one e) from.0 found.0 from.1 in
-      record { place = among.0; is_there = get_map (λ (seat : Seat). seat.slot) group.seats among.0 found.0.seat among.1 ∙ ap (λ (n : ℕ). Some n) found.2 }
+      record { place = among.0; is_there = mapped_at (λ (seat : Seat). seat.slot) group.seats among.0 found.0.seat among.1 ∙ ap (λ (n : ℕ). Some n) found.2 }
 
   -- They are slots of seats.
   pub recovery_on_seats : (slot : ℕ) → IsOneOf (recovery_slots ready) slot → IsOneOf (slots_of group.seats) slot

@@ -1,6 +1,7 @@
 -- What recovery writes may be written over the copies of the group's disks.
 use Rattle.std.proofs.Common.{◌≡◌, ◌≢◌, ℕ, ◌<◌, Bool, true, false, map, filter, Some, None, refl, sym, ap, subst, ◌∙◌, arith, if◌then◌else◌}
 use Rattle.std.specs.List.{AllByRecursion}
+use Rattle.ddf_lemmas.proofs.Lists.{all_from, all_weaken, filter_get, in_map}
 use Rattle.ddf_config.specs.Configuration.{Configuration}
 use Rattle.ddf_copy.specs.declared.copy.DiskCopy.{DiskCopy}
 use Rattle.ddf_copy.specs.declared.newest_copy.Newest.{Newest}
@@ -12,10 +13,9 @@ use Rattle.ddf_copy.specs.Shows.{IsNewest}
 use Rattle.ddf_copy.specs.Written.{counted, is_level}
 use Rattle.ddf_view.specs.Shows.{shows}
 use Rattle.ddf_view.specs.View.{view_of}
-use Rattle.ddf_view.proofs.Tests.{all_map}
 use Rattle.ddf_rewrite.specs.Before.{Before}
 use Rattle.ddf_rewrite.specs.Copies.{recovered_copy}
-use Rattle.ddf_rewrite.proofs.Lists.{all_at, all_by_get, map_get}
+use Rattle.ddf_rewrite.proofs.Lists.{all_at}
 use Rattle.ddf_seats.specs.declared.seated.Seated.{Seated}
 use Rattle.ddf_assembly.specs.Assembled.{HasOneNewest, IsAssembledGroup}
 use Rattle.ddf_steps.specs.Committed.{HasPlacesOf, IsRewritten}
@@ -27,7 +27,6 @@ use Rattle.ddf_seats.specs.Seated.{seated}
 use Rattle.ddf_steps.specs.Steps.{Step}
 use Rattle.ddf_recovery.proofs.Committed.{IsNewerOver, MayReplace}
 use Rattle.ddf_recovery.proofs.CommittedReadied.{disks_rewritten}
-use Rattle.ddf_seats.proofs.Lists.{filter_get}
 use Rattle.ddf_recovery.proofs.Recovered.{IsOwn}
 use Rattle.ddf_steps.proofs.Rewritten.{changed_own}
 use Rattle.ddf_assembly.proofs.SettledSeats.{same_group, same_sequence}
@@ -53,7 +52,7 @@ standing_level (newests.Neither first second) copy old stands is alone = absurd 
 lost_replace : (timestamp : ℕ) (group : GroupValue) → AllByRecursion (IsOwn group.config) (seated group) → group.config.sequence < (config_lost group).sequence
     → AllByRecursion (MayReplace group (config_lost group)) (lost_step timestamp group).disks
 lost_replace timestamp group own less =
-    all_map (IsRewritten (seated group) (config_lost group)) (MayReplace group (config_lost group))
+    all_weaken (IsRewritten (seated group) (config_lost group)) (MayReplace group (config_lost group))
     (λ disk is. record {
       rewrites = is;
       newer = λ changes found is_found stands old alike newest same.
@@ -117,9 +116,9 @@ mended_newer timestamp group disk own of_group one found is_found stands old ali
 mending_replace : (timestamp : ℕ) (group : GroupValue) → IsAssembledGroup group → AllByRecursion (IsOwn group.config) (seated group)
     → AllByRecursion (MayReplace group group.config) (mending_step timestamp group).disks
 mending_replace timestamp group is own =
-    all_by_get (MayReplace group group.config) (map (mended (leading group) group.config timestamp) (filter (lags group) (seated group)))
+    all_from (MayReplace group group.config) (map (mended (leading group) group.config timestamp) (filter (lags group) (seated group)))
     (λ k disk at.
-    let found = map_get (mended (leading group) group.config timestamp) (filter (lags group) (seated group)) k disk at in
+    let found = in_map (mended (leading group) group.config timestamp) (filter (lags group) (seated group)) k disk at in
     let here = filter_get (lags group) (seated group) k found.0 found.1 in
     subst (MayReplace group group.config) found.2
     (record {

@@ -1,7 +1,8 @@
 -- The seats of a group that blocks may be read from.
-use Rattle.std.proofs.Common.{◌≡◌, ℕ, Bool, true, false, List, [], ◌∷◌, map, filter, Option, Some, None, refl, subst, ap, ◌∙◌, ◌||◌, if◌then◌else◌}
+use Rattle.std.proofs.Common.{◌≡◌, ℕ, Bool, true, false, List, [], ◌∷◌, map, filter, Option, Some, None, refl, subst, ap, ◌∙◌, if◌then◌else◌}
 use Rattle.std.specs.Prelude.{filter_map, slice_get}
 use Rattle.std.specs.List.{cons_option, list_any}
+use Rattle.std.proofs.lemmas.Bool.{or_parts}
 use Rattle.ddf_copy.specs.declared.newest_copy.Newest.{Newest}
 use Rattle.ddf_config.specs.declared.seat.Seat.{Seat}
 use Rattle.ddf_config.specs.Configuration.{Configuration}
@@ -17,10 +18,6 @@ use Rattle.ddf_seats.specs.Leading.{leading_disks, leading_views, leads}
 use Rattle.ddf_seats.specs.Seated.{seated, seats_in, views_in}
 use Rattle.ddf_recovery.specs.Stray.{is_stray, trusted_seat}
 use Rattle.ddf_seats.proofs.CommittedSeats.{seated_is}
-
-neither : (a b : Bool) → (a || b) ≡ false → (a ≡ false) × (b ≡ false)
-neither true b is = absurd cc
-neither false b is = (refl, is)
 
 -- What is found of each disk is found of the group.
 pub trusted_disk_by_disk : (group : GroupValue) (disks : List Seated) (seats : List Seat) → disks ≡ seated group
@@ -54,7 +51,7 @@ all_seats : (slots : List Shown) (newest : List (Option Newest)) (noted : Bool) 
     → filter_map (trusted_seat slots newest noted config) disks ≡ seats_in disks
 all_seats slots newest noted config [] none = refl
 all_seats slots newest noted config (disk ∷ disks) none =
-    let parts = neither (is_stray slots newest noted config disk) (list_any (is_stray slots newest noted config) disks) none in
+    let parts = or_parts (is_stray slots newest noted config disk) (list_any (is_stray slots newest noted config) disks) none in
     ap (λ (b : Bool). cons_option (if b then None else Some disk.seat) (filter_map (trusted_seat slots newest noted config) disks)) parts.0
     ∙ ap (λ (seats : List Seat). disk.seat ∷ seats) (all_seats slots newest noted config disks parts.1)
 

@@ -1,9 +1,11 @@
 -- A rebuild that begins on a spare: its change isn't refused, and its extent is free.
-use Rattle.std.proofs.Common.{◌≡◌, ℕ, ◌+◌, ◌<◌, Bool, true, false, not, ◌&&◌, ◌||◌, List, [], ◌∷◌, ◌++◌, length, map, filter, min, Option, Some, None, is_none, is_some, option_map, option_and_then, nat_eq, nat_le, nat_lt, Result, Ok, Err, cond, refl, sym, ap, subst, ◌∙◌, arith}
-use Rattle.std.proofs.lemmas.Bool.{and_parts, and_from}
+use Rattle.std.proofs.Common.{◌≡◌, ℕ, ◌+◌, Bool, true, false, not, ◌&&◌, ◌||◌, List, [], ◌∷◌, ◌++◌, length, map, filter, min, Option, Some, None, is_none, is_some, option_map, option_and_then, nat_eq, nat_le, nat_lt, Result, Ok, Err, cond, refl, sym, ap, subst, ◌∙◌, arith, lt-ltb}
+use Rattle.std.proofs.lemmas.Bool.{and_parts, and_from, not-true, or_parts}
 use Rattle.std.specs.Prelude.{slice_get}
 use Rattle.std.specs.Map.{lookup}
 use Rattle.std.specs.List.{AllByRecursion, list_any}
+use Rattle.std.proofs.lemmas.Option.{slice_get_within}
+use Rattle.ddf_lemmas.proofs.Lists.{all_append}
 use Rattle.ddf_config.specs.declared.member.Member.{Member}
 use Rattle.ddf_config.specs.declared.member.SpareUse.{SpareUse}
 use Rattle.ddf_config.specs.declared.array.Array.{Array}
@@ -16,7 +18,7 @@ use Rattle.ddf_config.specs.ElementValue.{ElementValue}
 use Rattle.ddf_config.specs.Extents.{extent, extents}
 use Rattle.ddf_config.specs.Members.{is_current, same_guid}
 use Rattle.ddf_config.specs.Refusals.{first_refusal, refuse_if}
-use Rattle.ddf_config.specs.Room.{is_free, least_start_of, meets, multiples}
+use Rattle.ddf_config.specs.Room.{is_free, least_start_of, meets}
 use Rattle.ddf_config.specs.Seats.{floor_of, slot_of}
 use Rattle.ddf_config.specs.Unusable.{passes_floor}
 use Rattle.ddf_plan.specs.declared.change.Change.{Change}
@@ -27,7 +29,7 @@ use Rattle.ddf_plan.specs.CreateRefusal.{references}
 use Rattle.ddf_plan.specs.Create.{lies_clear}
 use Rattle.ddf_plan.specs.Rebuild.{element_at, has_position, new_position, part_has}
 use Rattle.ddf_plan.specs.Causes.{causes}
-use Rattle.ddf_plan.proofs.Clear.{found_passes}
+use Rattle.ddf_plan.proofs.Clear.{least_is_free}
 use Rattle.ddf_repair.specs.declared.first.Out.{Out}
 use Rattle.ddf_repair.specs.declared.first.Target.{Target}
 use Rattle.ddf_repair.specs.declared.beginning.Begun.{Begun}
@@ -37,13 +39,9 @@ use Rattle.ddf_repair.specs.declared.beginning.RebuildFault.TheVariants.{Small}
 use Rattle.ddf_repair.specs.First.{first_out}
 use Rattle.ddf_repair.specs.Spares.{can_stand_in, extent_on, first_extent, is_dedicated_to, is_global, is_spare_of, most_of, spares_for, spares_of, taken_on}
 use Rattle.ddf_repair.specs.Begin.{begin_change, begun, begun_at, begun_in, onto_any, onto_one}
-use Rattle.ddf_repair.proofs.Firsts.{IsPlaced, got_within, out_placed}
+use Rattle.ddf_repair.proofs.Firsts.{IsPlaced, out_placed}
 
 -- ---- the spares are seated
-
-all_append : {X : Type 0} (P : X → Type 0) (xs ys : List X) → AllByRecursion P xs → AllByRecursion P ys → AllByRecursion P (xs ++ ys)
-all_append P [] ys h k = k
-all_append P (x ∷ xs) ys h k = (h.0, all_append P xs ys h.1 k)
 
 module _ (members : List (ℕ × Member)) (seats : List Seat) (used : List ℕ) where
   abbrev CanStandIn : ℕ → Type 0
@@ -94,10 +92,6 @@ within_both end size floor h = (first end size floor h, second end size floor h)
     second : (end size floor : ℕ) → nat_le end (min size floor) ≡ true → nat_lt floor end ≡ false
     second end size floor h = grind arith
 
-is_start : (taken : List (ℕ × ℕ)) (limit strip blocks start : ℕ) → least_start_of taken limit strip blocks ≡ Some start → is_free taken limit blocks start ≡ true
-unfolding least_start_of
-is_start taken limit strip blocks start e = found_passes (is_free taken limit blocks) (multiples strip limit) start e
-
 pub free_on : (members : List (ℕ × Member)) (all : List Extent) (seats : List Seat) (strip blocks reference : ℕ) (found : Extent) → extent_on members all seats strip blocks reference ≡ Some found → IsFreeOn members all seats reference blocks found
 free_on members all seats strip blocks reference found h = at_member (lookup (nat_eq reference) members) refl h
   where
@@ -106,7 +100,7 @@ free_on members all seats strip blocks reference found h = at_member (lookup (na
     at_start member floor is_member is_floor None e h = absurd cc
     at_start member floor is_member is_floor (Some start) e h =
         let same : made reference start blocks ≡ found = cc in
-        let free = and_parts (nat_le (start + blocks) (min member.size floor)) (not (list_any (meets start blocks) (taken_on all reference))) (is_start (taken_on all reference) (min member.size floor) strip blocks start e) in
+        let free = and_parts (nat_le (start + blocks) (min member.size floor)) (not (list_any (meets start blocks) (taken_on all reference))) (least_is_free (taken_on all reference) (min member.size floor) strip blocks start e) in
         let ends = within_both (start + blocks) member.size floor free.0 in
         subst (IsFreeOn members all seats reference blocks) same (record {
           on = refl;
@@ -183,30 +177,19 @@ module _ (config : Configuration) (guid : List ℕ) (seats : List Seat) (aside :
 
 -- ---- its change
 
-three_pass : (a b c : Option Refusal) → a ≡ None → b ≡ None → c ≡ None → first_refusal (a ∷ b ∷ c ∷ []) ≡ None
+pub three_pass : (a b c : Option Refusal) → a ≡ None → b ≡ None → c ≡ None → first_refusal (a ∷ b ∷ c ∷ []) ≡ None
 three_pass None None None h k l = refl
 three_pass None None (Some refusal) h k l = absurd cc
 three_pass None (Some refusal) c h k l = absurd cc
 three_pass (Some refusal) b c h k l = absurd cc
 
-is_not : (b : Bool) → not b ≡ true → b ≡ false
-is_not true h = absurd cc
-is_not false h = refl
-
-neither : (a b : Bool) → (a || b) ≡ false → (a ≡ false) × (b ≡ false)
-neither true b h = absurd cc
-neither false b h = (refl, h)
-
 -- what isn't in two lists together is in neither
 apart_among : (xs ys : List ℕ) (n : ℕ) → is_among (xs ++ ys) n ≡ false → (is_among xs n ≡ false) × (is_among ys n ≡ false)
 apart_among [] ys n h = (refl, h)
 apart_among (x ∷ xs) ys n h =
-    let parts = neither (nat_eq n x) (is_among (xs ++ ys) n) h in
+    let parts = or_parts (nat_eq n x) (is_among (xs ++ ys) n) h in
     let rest = apart_among xs ys n parts.1 in
     (ap (λ (b : Bool). b || is_among xs n) parts.0 ∙ rest.0, rest.1)
-
-within_test : (a b : ℕ) → a < b → nat_lt a b ≡ true
-within_test a b less = grind arith
 
 module _ (config : Configuration) (guid : List ℕ) (seats : List Seat) (aside : List ℕ) (change : Change) (fresh : IsFresh config guid seats aside change) where
   pub placed : IsPlaced (length fresh.array.elements) 0 fresh.array.elements fresh.out
@@ -223,7 +206,7 @@ module _ (config : Configuration) (guid : List ℕ) (seats : List Seat) (aside :
   is_there =
       ap (λ (found : Option Array). elim found [ None ↦ false | Some array ↦ part_has fresh.out.target.position (element_at array fresh.out.target.element) ]) fresh.is_array
       ∙ ap (part_has fresh.out.target.position) element_is
-      ∙ within_test fresh.out.target.position (length placed.plan.positions) (got_within placed.plan.positions fresh.out.target.position placed.held placed.position)
+      ∙ lt-ltb fresh.out.target.position (length placed.plan.positions) (slice_get_within placed.plan.positions fresh.out.target.position placed.held placed.position)
 
   abbrev used : List ℕ
   used = aside ++ references fresh.array
@@ -244,7 +227,7 @@ module _ (config : Configuration) (guid : List ℕ) (seats : List Seat) (aside :
       ∙ (and_parts (is_current config.members seated.0) (is_some (floor_of seats seated.0)) stands.0).0
 
   is_unused : (is_among aside fresh.found.reference ≡ false) × (is_among (references fresh.array) fresh.found.reference ≡ false)
-  is_unused = apart_among aside (references fresh.array) fresh.found.reference (ap (is_among used) found_free.on ∙ is_not (is_among used seated.0) stands.1)
+  is_unused = apart_among aside (references fresh.array) fresh.found.reference (ap (is_among used) found_free.on ∙ not-true (is_among used seated.0) stands.1)
 
   -- it's none of the disks that are set aside
   pub is_passed_over : is_among aside fresh.found.reference ≡ false

@@ -6,6 +6,7 @@ use Rattle.std.proofs.lemmas.Map.Keys.{IsDistinct-head, IsDistinct-tail}
 use Rattle.std.specs.Prelude.{slice_get}
 use Rattle.std.specs.Map.{keys_of, lookup}
 use Rattle.std.specs.List.{AllByRecursion, IsDistinct, enumerate_from, flat_map}
+use Rattle.ddf_lemmas.proofs.Tests.{less_test}
 use Rattle.ddf_config.specs.declared.element.Position.{Position}
 use Rattle.ddf_config.specs.declared.array.Array.{Array}
 use Rattle.ddf_config.specs.declared.extent.Extent.{Extent}
@@ -21,9 +22,6 @@ use Rattle.ddf_plan.specs.Standing.{takes_revertible}
 use Rattle.ddf_plan.specs.Arrays.{element_after, named_after, part_after, position_after}
 use Rattle.ddf_repair.proofs.Replaced.{IsReplaced, behind, front, here, same}
 use Rattle.ddf_repair.proofs.Usable.{one_after}
-
-less_test : (a b : ℕ) → a < b → nat_eq a b ≡ false
-less_test a b less = grind arith
 
 module _ (guid : List ℕ) (element position reference start : ℕ) where
   abbrev change : Change

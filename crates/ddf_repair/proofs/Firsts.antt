@@ -1,5 +1,5 @@
 -- The first position that is out of sync is a position of the array.
-use Rattle.std.proofs.Common.{◌≡◌, ℕ, zero, suc, ◌+◌, ◌<◌, Bool, true, false, List, [], ◌∷◌, length, Option, Some, None, cond, find, refl, sym, ap, ◌∙◌, arith}
+use Rattle.std.proofs.Common.{◌≡◌, ℕ, suc, ◌+◌, Bool, true, false, List, [], ◌∷◌, Option, Some, None, cond, find, refl, sym, ap, ◌∙◌, arith}
 use Rattle.std.specs.Prelude.{slice_get}
 use Rattle.std.specs.List.{enumerate_from}
 use Rattle.ddf_config.specs.declared.element.Position.{Position}
@@ -7,11 +7,6 @@ use Rattle.ddf_config.specs.ElementValue.{ElementValue}
 use Rattle.ddf_config.specs.States.{is_out}
 use Rattle.ddf_repair.specs.declared.first.Out.{Out}
 use Rattle.ddf_repair.specs.First.{out_at, out_from, out_in, part_out}
-
-pub got_within : {X : Type 0} (xs : List X) (k : ℕ) (x : X) → slice_get xs k ≡ Some x → k < length xs
-got_within [] k x h = absurd cc
-got_within (y ∷ ys) zero x h = omega arith
-got_within (y ∷ ys) (suc k) x h = let rest = got_within ys k x h in omega (arith, rest)
 
 -- what a search among numbered items finds stands at its number
 found_at : {X : Type 0} (p : ℕ × X → Bool) (n : ℕ) (xs : List X) (at : ℕ × X) → find p (enumerate_from n xs) ≡ Some at → (k : ℕ) × (at.0 ≡ n + k) × (slice_get xs k ≡ Some at.1)

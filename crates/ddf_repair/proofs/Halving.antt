@@ -1,6 +1,6 @@
 -- Where there is room for some blocks there is room for fewer, so the most is found by halving.
 use Rattle.std.proofs.Common.{◌≡◌, ℕ, zero, suc, ◌+◌, ◌<◌, ◌≤◌, Bool, true, false, not, ◌||◌, List, [], ◌∷◌, Some, cond, find, is_some, unwrap_or, nat_le, ⊎_elim, refl, sym, ap, ◌∙◌, arith}
-use Rattle.std.proofs.lemmas.Bool.{and_from, and_parts, false≢true, cases_lt}
+use Rattle.std.proofs.lemmas.Bool.{and_from, and_parts, false≢true, cases_lt, not-true}
 use Rattle.std.specs.List.{list_any}
 use Rattle.ddf_config.specs.Room.{is_free, least_start_of, meets, multiples}
 use Rattle.ddf_repair.specs.Spares.{downwards, has_room}
@@ -19,10 +19,6 @@ none_less start m n (other ∷ taken) le h = by (meets start n other) (meets sta
     by false false less h rest = rest h
     by false true less h rest = absurd (false≢true (sym (less refl)))
 
-not_false : (b : Bool) → not b ≡ true → b ≡ false
-not_false true h = absurd (false≢true h)
-not_false false h = refl
-
 ends_less : (start m n limit : ℕ) → m ≤ n → nat_le (start + n) limit ≡ true → nat_le (start + m) limit ≡ true
 ends_less start m n limit le h = grind arith
 
@@ -30,7 +26,7 @@ free_less : (taken : List (ℕ × ℕ)) (limit m n start : ℕ) → m ≤ n → 
 free_less taken limit m n start le h =
     let parts = and_parts (nat_le (start + n) limit) (not (list_any (meets start n) taken)) h in
     and_from (nat_le (start + m) limit) (not (list_any (meets start m) taken)) (ends_less start m n limit le parts.0)
-    (ap not (none_less start m n taken le (not_false (list_any (meets start n) taken) parts.1)))
+    (ap not (none_less start m n taken le (not-true (list_any (meets start n) taken) parts.1)))
 
 still_found : {X : Type 0} (p q : X → Bool) → ((x : X) → p x ≡ true → q x ≡ true) → (xs : List X) → is_some (find p xs) ≡ true → is_some (find q xs) ≡ true
 still_found p q more [] h = h

@@ -1,28 +1,19 @@
 -- The mark after it is set, and after it is cleared.
-use Rattle.std.proofs.Common.{◌≡◌, ℕ, ◌+◌, ◌-◌, ◌*◌, ◌/◌, ◌%◌, ◌≤◌, Bool, true, false, not, List, Some, eqb, refl, ap, ◌∙◌, if◌then◌else◌, arith}
+use Rattle.std.proofs.Common.{◌≡◌, ℕ, ◌+◌, ◌-◌, ◌*◌, ◌/◌, ◌%◌, ◌≤◌, Bool, true, false, List, Some, eqb, refl, ap, ◌∙◌, if◌then◌else◌, arith}
 use Rattle.std.specs.Map.{lookup}
-use Rattle.std.specs.List.{list_any}
 use Rattle.ddf_config.specs.declared.member.Member.{Member}
 use Rattle.ddf_config.specs.declared.array.Array.{Array}
 use Rattle.ddf_config.specs.declared.extent.Extent.{Extent}
 use Rattle.ddf_config.specs.Configuration.{Configuration}
 use Rattle.ddf_config.specs.Extents.{extents}
 use Rattle.ddf_config.specs.Members.{same_guid}
-use Rattle.ddf_config.specs.States.{array_with_low, has_position_out, is_marked, low_state, takes_low_state}
-use Rattle.ddf_config.specs.Within.{is_available, is_within}
+use Rattle.ddf_config.specs.States.{array_with_low, is_marked, low_state, takes_low_state}
+use Rattle.ddf_config.proofs.Common.{low_small}
 use Rattle.ddf_plan.specs.declared.change.Change.TheVariants.{Mark, Unmark}
 use Rattle.ddf_plan.specs.Mark.{mark, marked, unmarked}
 use Rattle.ddf_plan.specs.Members.{members_after}
 use Rattle.ddf_plan.specs.Arrays.{arrays_after, kept_and_added}
 use Rattle.ddf_repair.proofs.Usable.{looked_up, one_after, table_is}
-
-low_small : (members : List (ℕ × Member)) (array : Array) → low_state members array ≤ 4
-low_small members array = by (not (is_within (is_available members) array)) (list_any has_position_out array.elements)
-  where
-    by : (a b : Bool) → (if a then 4 else (if b then 1 else 0)) ≤ 4
-    by true b = omega arith
-    by false true = omega arith
-    by false false = omega arith
 
 same_bit : (state low : ℕ) → low ≤ 4 → (state / 8 * 8 + low) / 16 ≡ state / 16
 same_bit state low small = omega (arith, small)
@@ -41,14 +32,14 @@ set_bit state away = grind arith
 clear_bit : (state : ℕ) → eqb (state / 16 % 2) 1 ≡ true → eqb ((state - mark) / 16 % 2) 1 ≡ false
 clear_bit state there = grind arith
 
-marked_is : (array : Array) → is_marked (marked array) ≡ true
+pub marked_is : (array : Array) → is_marked (marked array) ≡ true
 marked_is array = by (is_marked array) refl
   where
     by : (b : Bool) → is_marked array ≡ b → eqb ((if b then array.state else array.state + mark) / 16 % 2) 1 ≡ true
     by true e = e
     by false e = set_bit array.state e
 
-unmarked_is : (init : ℕ) (array : Array) → is_marked (unmarked init array) ≡ false
+pub unmarked_is : (init : ℕ) (array : Array) → is_marked (unmarked init array) ≡ false
 unmarked_is init array = by (is_marked array) refl
   where
     by : (b : Bool) → is_marked array ≡ b → eqb ((if b then array.state - mark else array.state) / 16 % 2) 1 ≡ false

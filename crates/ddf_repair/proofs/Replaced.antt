@@ -1,10 +1,11 @@
 -- Lists of extents of which one at most is replaced by another that is free among them.
-use Rattle.std.proofs.Common.{◌≡◌, ℕ, ◌+◌, ◌≤◌, Bool, true, false, not, ◌&&◌, ◌||◌, cond, List, [], ◌∷◌, ◌++◌, filter, Option, Some, None, nat_eq, nat_le, count_by, append_assoc, refl, sym, ap, ◌∙◌, arith}
-use Rattle.std.proofs.lemmas.Bool.{and_from, and_parts, false≢true}
+use Rattle.std.proofs.Common.{◌≡◌, ℕ, ◌+◌, ◌≤◌, Bool, true, false, not, ◌&&◌, cond, List, [], ◌∷◌, ◌++◌, filter, Option, Some, None, nat_eq, nat_le, count_by, append_assoc, refl, sym, ap, ◌∙◌, arith}
+use Rattle.std.proofs.lemmas.Bool.{and_from, and_parts, false≢true, not-true, or_parts}
 use Rattle.std.proofs.lemmas.List.Folds.{list_all-append}
 use Rattle.std.proofs.lemmas.List.Sums.{sum_by-append, sum_by-cons}
 use Rattle.std.specs.Map.{lookup}
 use Rattle.std.specs.List.{list_all, list_any}
+use Rattle.ddf_lemmas.proofs.Tests.{eqb_false_turned, one_test}
 use Rattle.ddf_config.specs.declared.member.Member.{Member}
 use Rattle.ddf_config.specs.declared.extent.Extent.{Extent}
 use Rattle.ddf_config.specs.Extents.{extents_on, ranges}
@@ -151,17 +152,6 @@ found_alone p found before after replaced none = by replaced.chosen replaced.by
 
 -- ---- an extent that is free meets none
 
-not_false : (b : Bool) → not b ≡ true → b ≡ false
-not_false true h = absurd (false≢true h)
-not_false false h = refl
-
-or_none : (a b : Bool) → (a || b) ≡ false → (a ≡ false) × (b ≡ false)
-or_none true b h = absurd (false≢true (sym h))
-or_none false b h = (refl, h)
-
-turned_eq : (a b : ℕ) → nat_eq a b ≡ false → nat_eq b a ≡ false
-turned_eq a b h = grind arith
-
 none_met : (reference start blocks : ℕ) (all : List Extent) → list_any (meets start blocks) (ranges (extents_on reference all)) ≡ false
     → list_all (λ (other : Extent). not (nat_eq reference other.reference && meets start blocks (other.start, other.blocks))) all ≡ true
 none_met reference start blocks [] h = refl
@@ -178,12 +168,12 @@ none_met reference start blocks (other ∷ all) h = by (nat_eq other.reference r
         → (list_any (meets start blocks) (ranges (extents_on reference all)) ≡ false → list_all (λ (one : Extent). not (nat_eq reference one.reference && meets start blocks (one.start, one.blocks))) all ≡ true)
         → (not (nat_eq reference other.reference && meets start blocks (other.start, other.blocks)) && list_all (λ (one : Extent). not (nat_eq reference one.reference && meets start blocks (one.start, one.blocks))) all) ≡ true
     by true e k rest =
-        let parts = or_none (meets start blocks (other.start, other.blocks)) (list_any (meets start blocks) (ranges (extents_on reference all))) k in
+        let parts = or_parts (meets start blocks (other.start, other.blocks)) (list_any (meets start blocks) (ranges (extents_on reference all))) k in
         and_from (not (nat_eq reference other.reference && meets start blocks (other.start, other.blocks))) (list_all (λ (one : Extent). not (nat_eq reference one.reference && meets start blocks (one.start, one.blocks))) all)
         (ap (λ b. not (nat_eq reference other.reference && b)) parts.0 ∙ ap not (and_false (nat_eq reference other.reference))) (rest parts.1)
     by false e k rest =
         and_from (not (nat_eq reference other.reference && meets start blocks (other.start, other.blocks))) (list_all (λ (one : Extent). not (nat_eq reference one.reference && meets start blocks (one.start, one.blocks))) all)
-        (ap (λ b. not (b && meets start blocks (other.start, other.blocks))) (turned_eq other.reference reference e)) (rest k)
+        (ap (λ b. not (b && meets start blocks (other.start, other.blocks))) (eqb_false_turned other.reference reference e)) (rest k)
 
 -- what a free extent has: its disk is a member's, it ends within the size, and it meets none
 pub record IsClear (members : List (ℕ × Member)) (all : List Extent) (found : Extent) : Type 0 where
@@ -203,7 +193,7 @@ is_clear members all found h = by (lookup (nat_eq found.reference) members) refl
           member = member;
           there = e;
           ends = parts.0;
-          none = none_met found.reference found.start found.blocks all (not_false (list_any (meets found.start found.blocks) (ranges (extents_on found.reference all))) parts.1);
+          none = none_met found.reference found.start found.blocks all (not-true (list_any (meets found.start found.blocks) (ranges (extents_on found.reference all))) parts.1);
         }
 
 -- ---- extents that lie well still do
@@ -212,7 +202,7 @@ meets_turned : (a b c d : ℕ) → meets a b (c, d) ≡ false → meets c d (a, 
 meets_turned a b c d h = grind arith
 
 turned : (found other : Extent) → not (meets_extent found other) ≡ true → meets_extent other found ≡ false
-turned found other h = by (nat_eq found.reference other.reference) refl (not_false (meets_extent found other) h)
+turned found other h = by (nat_eq found.reference other.reference) refl (not-true (meets_extent found other) h)
   where
     by : (b : Bool) → nat_eq found.reference other.reference ≡ b → (b && meets found.start found.blocks (other.start, other.blocks)) ≡ false → meets_extent other found ≡ false
     by true e k = by_same (nat_eq other.reference found.reference) (meets_turned found.start found.blocks other.start other.blocks k)
@@ -220,13 +210,10 @@ turned found other h = by (nat_eq found.reference other.reference) refl (not_fal
         by_same : (a : Bool) → meets other.start other.blocks (found.start, found.blocks) ≡ false → (a && meets other.start other.blocks (found.start, found.blocks)) ≡ false
         by_same true k = k
         by_same false k = refl
-    by false e k = ap (λ a. a && meets other.start other.blocks (found.start, found.blocks)) (turned_eq found.reference other.reference e)
+    by false e k = ap (λ a. a && meets other.start other.blocks (found.start, found.blocks)) (eqb_false_turned found.reference other.reference e)
 
 le_test : (a b : ℕ) → a ≤ b → nat_le b 1 ≡ true → nat_le a 1 ≡ true
 le_test a b le h = grind arith
-
-one_test : (a : ℕ) → a ≤ 1 → nat_le a 1 ≡ true
-one_test a le = grind arith
 
 module _ (members : List (ℕ × Member)) (found : Extent) (before after : List Extent) (replaced : IsReplaced found before after) (clear : IsClear members before found) where
   other_lies : (other : Extent) → (lies_well members before other && not (meets_extent found other)) ≡ true → lies_well members after other ≡ true

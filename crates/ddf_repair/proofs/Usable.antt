@@ -145,7 +145,7 @@ one_stays config change is all guid array = by (names change guid)
     by true = named_stays (takes_revertible config change) change is array
     by false = refl
 
-all_stay : (k : List ℕ → Array → Array) → ((guid : List ℕ) (array : Array) → array_extents (k guid array) ≡ array_extents array) → (es : List (List ℕ × Array)) → extents (changed_entries (λ g a. Some (k g a)) es) ≡ extents es
+pub all_stay : (k : List ℕ → Array → Array) → ((guid : List ℕ) (array : Array) → array_extents (k guid array) ≡ array_extents array) → (es : List (List ℕ × Array)) → extents (changed_entries (λ g a. Some (k g a)) es) ≡ extents es
 all_stay k stay [] = refl
 all_stay k stay (e ∷ es) =
     ap (λ own. own ++ extents (changed_entries (λ g a. Some (k g a)) es)) (stay e.0 e.1)

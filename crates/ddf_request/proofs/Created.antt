@@ -1,9 +1,9 @@
 -- The word of an array that was created.
-use Rattle.std.proofs.Common.{◌≡◌, ◌∙◌, ℕ, Bool, true, false, ◌||◌, List, [], ◌∷◌, ◌++◌, Option, Some, None, Ok, cond, find, is_some, option_map, refl, sym, ap}
+use Rattle.std.proofs.Common.{◌≡◌, ◌∙◌, ℕ, Bool, true, false, List, [], ◌∷◌, ◌++◌, Option, Some, None, Ok, cond, find, is_some, option_map, refl, sym, ap}
 use Rattle.std.specs.Map.{lookup}
 use Rattle.std.specs.List.{list_any}
 use Rattle.std.specs.Option.{option_and_then}
-use Rattle.std.proofs.lemmas.Bool.{cond-true, cond-false, or_parts}
+use Rattle.std.proofs.lemmas.Bool.{cond-true, cond-false, or_parts, or_from}
 use Rattle.std.proofs.lemmas.Cmp.{nat_list_eq_equiv}
 use Rattle.std.proofs.lemmas.Slice.Eq.{bytes_eq-Decides}
 use Rattle.ddf_config.specs.declared.member.Member.{Member}
@@ -37,9 +37,6 @@ Entry = List ℕ × Array
 
 -- ---- the last array of a table is named where no other has its word
 
-neither : (a b : Bool) → a ≡ false → b ≡ false → (a || b) ≡ false
-neither a b first second = ap (λ (one : Bool). one || b) first ∙ second
-
 -- what a new array leaves of the others
 module _ (members : List (ℕ × Member)) (guid : List ℕ) (array : Array) (word : List ℕ) where
   none_kept : (entries : List Entry) → list_any (has_printed_name word) entries ≡ false
@@ -47,7 +44,7 @@ module _ (members : List (ℕ × Member)) (guid : List ℕ) (array : Array) (wor
   none_kept [] none = refl
   none_kept (entry ∷ entries) none =
       let parts = or_parts (has_printed_name word entry) (list_any (has_printed_name word) entries) none in
-      neither _ _ parts.0 (none_kept entries parts.1)
+      or_from _ _ parts.0 (none_kept entries parts.1)
 
 -- low states keep names
 module _ (members : List (ℕ × Member)) (all : List Extent) where

@@ -5,19 +5,11 @@ use Rattle.std.proofs.lemmas.Bool.{and_parts}
 use Rattle.std.proofs.lemmas.Grind.{common_steps}
 use Rattle.std.proofs.lemmas.List.{drop-replicate}
 use Rattle.std.proofs.lemmas.List.Sums.{list_all-from_AllPass}
+use Rattle.std.proofs.Math.Seq.{drop-append_seam, take-append_seam}
 use Rattle.ddf_name.specs.Names.{are_all, is_plain, is_plain_name, name_text, plain_len}
 use Rattle.ddf_words.specs.Words.{IsPlainName}
 use Rattle.ddf_request.specs.NewArray.{padded}
 use Rattle.ddf_request.proofs.Names.{padded_is}
-
--- what stands in front, and what behind
-front : (name rest : List ℕ) → take (length name) (name ++ rest) ≡ name
-front [] rest = refl
-front (byte ∷ name) rest = ap (λ l. byte ∷ l) (front name rest)
-
-behind : (name rest : List ℕ) → drop (length name) (name ++ rest) ≡ rest
-behind [] rest = refl
-behind (byte ∷ name) rest = behind name rest
 
 -- plain bytes count, up to what doesn't
 counted : (name rest : List ℕ) → list_all is_plain name ≡ true → plain_len rest ≡ 0 → plain_len (name ++ rest) ≡ length name
@@ -54,8 +46,8 @@ unfolding text_by
 shows_front name spaces other some plain blank none =
     let whole = name ++ spaces in
     ap (λ (count : ℕ). text_by count (drop count whole) (take count whole) other) (counted name spaces plain none)
-    ∙ ap (λ (padding : List ℕ). text_by (length name) padding (take (length name) whole) other) (behind name spaces)
-    ∙ ap (λ (text : List ℕ). text_by (length name) spaces text other) (front name spaces)
+    ∙ ap (λ (padding : List ℕ). text_by (length name) padding (take (length name) whole) other) (drop-append_seam name spaces)
+    ∙ ap (λ (text : List ℕ). text_by (length name) spaces text other) (take-append_seam name spaces)
     ∙ is_front (length name == 0) (are_all 0x20 spaces) (are_all 0 spaces) name other (some_bytes (length name) some) blank
 
 pub padded_prints : (name : List ℕ) → IsPlainName name → name_text (padded name) ≡ name

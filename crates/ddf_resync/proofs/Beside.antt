@@ -1,6 +1,7 @@
 -- Cells of a position and the first copies of their blocks, side by side.
 use Rattle.std.proofs.Common.{◌≡◌, ◌∙◌, ℕ, ◌+◌, ◌<◌, Some, None, sym, ap}
 use Rattle.std.specs.Prelude.{option_map}
+use Rattle.std.proofs.lemmas.Option.{same_Some}
 use Rattle.ddf_bay.specs.Sectors.{Image}
 use Rattle.ddf_array.specs.declared.part.Part.{Part}
 use Rattle.ddf_array.specs.declared.site.Site.{Site}
@@ -15,9 +16,6 @@ use Rattle.ddf_resync.specs.Agreeing.{CopyAgrees}
 use Rattle.ddf_resync.specs.Runs.{IsCopyRun}
 use Rattle.ddf_read.proofs.SourcesAlong.{site_further}
 
-same_of : {X : Type 0} (x y : X) → Some x ≡ Some y → x ≡ y
-same_of x y e = cc
-
 module _ (v : Volume) (image : Image) (element : ℕ) (part : Part) (position sector block : ℕ) (own first : Site) (count : ℕ) (run : IsCopyRun v element position sector block first count)
     (own_at : site_at part.places position sector ≡ Some own) (k : ℕ) (below : k < count) where
   own_further : site_at part.places position (sector + k) ≡ Some (further k own)
@@ -25,9 +23,9 @@ module _ (v : Volume) (image : Image) (element : ℕ) (part : Part) (position se
 
   pub run_good : bytes_at image (further k own) ≡ bytes_at image (further k first) → CopyAgrees v image element part position (sector + k)
   run_good same block' own' first' block_at' own_at' first_at' =
-      let b : block + k ≡ block' = same_of (block + k) block' (sym (run.blocks k below) ∙ block_at') in
-      let o : further k own ≡ own' = same_of (further k own) own' (sym own_further ∙ own_at') in
-      let f : further k first ≡ first' = same_of (further k first) first' (sym (run.firsts k below) ∙ ap (first_copy v) b ∙ first_at') in
+      let b : block + k ≡ block' = same_Some (block + k) block' (sym (run.blocks k below) ∙ block_at') in
+      let o : further k own ≡ own' = same_Some (further k own) own' (sym own_further ∙ own_at') in
+      let f : further k first ≡ first' = same_Some (further k first) first' (sym (run.firsts k below) ∙ ap (first_copy v) b ∙ first_at') in
       ap (bytes_at image) (sym o) ∙ same ∙ ap (bytes_at image) f
 
   pub run_bad : (bytes_at image (further k own) ≡ bytes_at image (further k first) → ⊥) → CopyAgrees v image element part position (sector + k) → ⊥

@@ -1,9 +1,10 @@
 -- The slots of reads that fail while a scrub compares.
-use Rattle.std.proofs.Common.{◌≡◌, ◌∙◌, inl, inr, ⊎_elim, ℕ, zero, suc, ◌+◌, ◌<◌, true, List, [], ◌∷◌, ◌++◌, Some, refl, sym, ap, subst, arith, filter_map, map, length, slice_get}
+use Rattle.std.proofs.Common.{◌≡◌, ◌∙◌, inl, inr, ⊎_elim, ℕ, zero, suc, ◌+◌, ◌<◌, true, List, [], ◌∷◌, Some, refl, sym, ap, subst, arith, filter_map, map, length, slice_get}
 use Rattle.std.specs.Prelude.{if◌then◌else◌}
 use Rattle.std.specs.List.{list_all}
 use Rattle.std.proofs.lemmas.List.{length-append}
 use Rattle.std.proofs.lemmas.Option.{slice_get_within}
+use Rattle.ddf_lemmas.proofs.Lists.{first_get, get_filter_map, mapped_at, second_get}
 use Rattle.ddf_primary.specs.Cells.{depth_of}
 use Rattle.ddf_array.specs.declared.part.Part.{Part}
 use Rattle.ddf_array.specs.declared.site.Site.{Site}
@@ -14,12 +15,11 @@ use Rattle.ddf_array.specs.Sources.{at_spot, copies, copy, element_rows, every_s
 use Rattle.ddf_array.specs.Rows.{block_at}
 use Rattle.ddf_array.specs.Volume.{Volume, IsVolume}
 use Rattle.ddf_array.specs.Within.{is_mirrored}
-use Rattle.ddf_array.proofs.Consistent.{at_part, to_filter, to_flat}
+use Rattle.ddf_array.proofs.Consistent.{at_part, to_flat}
 use Rattle.ddf_read.specs.Along.{further}
 use Rattle.ddf_read.specs.Reading.{HasSite}
 use Rattle.ddf_read.specs.Sums.{other_sites}
 use Rattle.ddf_read.proofs.OtherCells.{row_sites}
-use Rattle.ddf_cells.proofs.Lists.{some_not_none, to_map}
 use Rattle.ddf_resync.specs.Compared.{IsCompared}
 use Rattle.ddf_resync.proofs.Failing.{available_whole, whole_sites}
 use Rattle.ddf_resync.proofs.Found.{spot_of}
@@ -28,15 +28,6 @@ length-map : {X Y : Type 0} (f : X → Y) (xs : List X) → length (map f xs) �
 length-map f [] = refl
 length-map f (x ∷ xs) = ap suc (length-map f xs)
 
-front : {X : Type 0} (xs ys : List X) (k : ℕ) (x : X) → slice_get xs k ≡ Some x → slice_get (xs ++ ys) k ≡ Some x
-front [] ys k x e = absurd (some_not_none x (sym e))
-front (y ∷ xs) ys zero x e = e
-front (y ∷ xs) ys (suc k) x e = front xs ys k x e
-
-back : {X : Type 0} (xs ys : List X) (k : ℕ) (x : X) → slice_get ys k ≡ Some x → slice_get (xs ++ ys) (length xs + k) ≡ Some x
-back [] ys k x e = let same : 0 + k ≡ k = omega arith in ap (slice_get ys) same ∙ e
-back (y ∷ xs) ys k x e = let same : suc (length xs) + k ≡ suc (length xs + k) = omega arith in ap (slice_get (y ∷ (xs ++ ys))) same ∙ back xs ys k x e
-
 -- sites that lie further on their slots
 pub has_further : (slot k : ℕ) (sites : List Site) → HasSite (λ other. other ≡ slot) sites → HasSite (λ other. other ≡ slot) (map (further k) sites)
 has_further slot k [] has = has
@@ -44,10 +35,10 @@ has_further slot k (site ∷ sites) has = ⊎_elim inl (λ later. inr (has_furth
 
 module _ (v : Volume) (block : ℕ) where
   source_copy : (k : ℕ) (one : Site) → slice_get (copies v block) k ≡ Some one → slice_get (every_source v block) k ≡ Some (copy one)
-  source_copy k one at = front (map copy (copies v block)) (map row (rows v block)) k (copy one) (to_map copy (copies v block) k one at)
+  source_copy k one at = first_get (map copy (copies v block)) (map row (rows v block)) k (copy one) (mapped_at copy (copies v block) k one at)
 
   source_row : (n : ℕ) (sites : List Site) → slice_get (rows v block) n ≡ Some sites → slice_get (every_source v block) (length (map copy (copies v block)) + n) ≡ Some (row sites)
-  source_row n sites at = back (map copy (copies v block)) (map row (rows v block)) n (row sites) (to_map row (rows v block) n sites at)
+  source_row n sites at = second_get (map copy (copies v block)) (map row (rows v block)) n (row sites) (mapped_at row (rows v block) n sites at)
 
   all_sources : length (every_source v block) ≡ length (copies v block) + length (rows v block)
   all_sources =
@@ -112,7 +103,7 @@ among_rows v known block element position sector part sites part_at keep is row_
     let at = spot_of v known block element position sector part part_at is in
     let there : row_without part.places at.cell.0 at.cell.1 ≡ Some sites = ap (λ p. row_without part.places p at.cell.1) at.position_is ∙ ap (row_without part.places position) at.sector_is ∙ row_at in
     let cells : List (List Site) = filter_map (λ (c : ℕ × ℕ). row_without part.places c.0 c.1) (element_cells part.shape at.spot.block) in
-    let inner = to_filter (λ (c : ℕ × ℕ). row_without part.places c.0 c.1) (element_cells part.shape at.spot.block) at.k at.cell sites at.cell_at there in
+    let inner = get_filter_map (λ (c : ℕ × ℕ). row_without part.places c.0 c.1) (element_cells part.shape at.spot.block) at.k at.cell sites at.cell_at there in
     let all : element_rows part at.spot.block ≡ cells = ap (λ b. if b then cells else []) keep in
     to_flat (at_spot v.parts element_rows) (block_spots v block) at.j inner.0 at.spot sites at.spot_at
     (ap (λ (l : List (List Site)). slice_get l inner.0) (at_part v.parts element_rows at.spot part (ap (slice_get v.parts) at.element_is ∙ part_at) ∙ all) ∙ inner.1)

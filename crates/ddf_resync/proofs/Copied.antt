@@ -2,6 +2,7 @@
 use Rattle.std.proofs.Common.{◌≡◌, ◌∙◌, ◌⊎◌, inl, inr, ⊎_elim, ℕ, suc, ◌+◌, ◌-◌, ◌<◌, ◌≤◌, List, [], ◌∷◌, Bool, true, false, Some, refl, sym, ap, subst, arith, map, length, slice_get}
 use Rattle.std.specs.Prelude.{slice_index_or}
 use Rattle.std.proofs.lemmas.Bool.{cases_lt}
+use Rattle.ddf_lemmas.proofs.Lists.{in_map}
 use Rattle.ddf_bay.specs.Sectors.{Image}
 use Rattle.ddf_array.specs.declared.site.Site.{Site}
 use Rattle.ddf_array.specs.Apart.{IsApart}
@@ -13,18 +14,15 @@ use Rattle.ddf_read.specs.Reading.{IsGivenBy}
 use Rattle.ddf_read.proofs.BlockSources.{sources_untrusted}
 use Rattle.ddf_read.proofs.GivenLaws.{one_of}
 use Rattle.ddf_read.proofs.Tries.{IsGivenBy-wider, Within}
+use Rattle.ddf_read.proofs.Common.{first_taken_by}
 use Rattle.ddf_cells.specs.CellsOn.{GivesCells}
 use Rattle.ddf_cells.specs.Touching.{IsTouchedSlot}
 use Rattle.ddf_cells.proofs.CopiesOn.{on_position}
-use Rattle.ddf_cells.proofs.Items.{in_map}
 use Rattle.ddf_cells.proofs.Lists.{some_not_none}
 use Rattle.ddf_cells.proofs.OnCells.{on_cell, one_owner}
 use Rattle.ddf_resync.specs.Copying.{AreAsBefore, AreCopied, AreNoted, HasOneCopy}
 use Rattle.ddf_resync.specs.Resyncing.{IsHeld, MayResync}
 use Rattle.ddf_resync.specs.Several.{has_other}
-
-some_is : {X : Type 0} {a b : X} → Some a ≡ Some b → a ≡ b
-some_is e = cc
 
 -- ---- what copies give
 
@@ -48,13 +46,6 @@ given_held v failed image block bytes is =
     let from = one_of failed image (map copy (copies v block)) bytes is in
     let its = in_map copy (copies v block) from.0 from.1.0 from.1.1 in
     record { number = from.0; other = its.0; is_copy = its.1; bytes_are = from.1.2 ∙ ap (given image) (sym its.2) }
-
--- where no read failed on the first copy's slot, its bytes
-first_taken_by : (failed : ℕ → Type 0) (image : Image) (cs : List Site) (first : Site) (bytes : List ℕ) → slice_get cs 0 ≡ Some first → (failed first.slot → ⊥) → IsGivenBy failed image (map copy cs) bytes → bytes ≡ bytes_at image first
-first_taken_by failed image [] first bytes at never is = absurd (some_not_none first (sym at))
-first_taken_by failed image (c ∷ cs) first bytes at never is =
-    let same : c ≡ first = some_is at in
-    ⊎_elim (λ here. here ∙ ap (bytes_at image) same) (λ later. absurd (never (subst (λ (one : Site). failed one.slot) same later.0))) is
 
 pub first_taken : (failed : ℕ → Type 0) (v : Volume) (image : Image) (block : ℕ) (first : Site) (bytes : List ℕ) → first_copy v block ≡ Some first → (failed first.slot → ⊥) → IsGivenBy failed image (map copy (copies v block)) bytes
     → bytes ≡ bytes_at image first

@@ -4,6 +4,8 @@ use Rattle.std.specs.Prelude.{◌==◌, if◌then◌else◌}
 use Rattle.std.specs.List.{range_with_len, sum_by}
 use Rattle.std.proofs.lemmas.Bool.{cases_lt, eqb-true, eq-eqb}
 use Rattle.std.proofs.lemmas.List.Sums.{sum_by-cons}
+use Rattle.ddf_lemmas.proofs.Lists.{zeros_sum, some_at_place}
+use Rattle.ddf_lemmas.proofs.Options.{some_is}
 use Rattle.ddf_primary.specs.Cells.{depth_of, parity_member}
 use Rattle.ddf_primary.specs.Cells as cells_of
 use Rattle.ddf_primary.proofs.ShapeFacts.{cell_facts, depth_le}
@@ -58,10 +60,6 @@ less_one f a (suc n) x le above below none =
 every : (m a n : ℕ) → sum_by (λ k. m) (range_with_len a n) ≡ n * m
 every m a zero = let none : 0 * m ≡ 0 = omega arith in sym none
 every m a (suc n) = let rest = every m (a + 1) n in let cons = sum_by-cons (λ k. m) a (range_with_len (a + 1) n) in let more : suc n * m ≡ m + n * m = omega arith in omega (arith, rest, cons, more)
-
-zeros_sum : (f : ℕ → ℕ) (xs : List ℕ) → ((x : ℕ) → f x ≡ 0) → sum_by f xs ≡ 0
-zeros_sum f [] none = refl
-zeros_sum f (x ∷ xs) none = let rest = zeros_sum f xs none in let here = none x in let cons = sum_by-cons f x xs in omega (arith, rest, here, cons)
 
 exchange : (f : ℕ → ℕ → ℕ) (xs ys : List ℕ) → sum_by (λ x. sum_by (f x) ys) xs ≡ sum_by (λ y. sum_by (λ x. f x y) xs) ys
 exchange f [] ys = sym (zeros_sum (λ y. sum_by (λ x. f x y) []) ys (λ y. refl))
@@ -137,9 +135,6 @@ many_sum : (f : ℕ → Option Site) (a n : ℕ) → how_many (map f (range_with
 many_sum f a zero = refl
 many_sum f a (suc n) =
     many_cons (f a) (map f (range_with_len (a + 1) n)) ∙ ap (λ m. number (f a) + m) (many_sum f (a + 1) n) ∙ sym (sum_by-cons (λ b. number (f b)) a (range_with_len (a + 1) n))
-
-some_is : {X : Type 0} {a b : X} → Some a ≡ Some b → a ≡ b
-some_is e = cc
 
 module _ (v : Volume) (known : IsVolume v) (element : ℕ) (part : Part) (is_part : slice_get v.parts element ≡ Some part) where
   abbrev on : (position x : ℕ) → Option ℕ
@@ -242,11 +237,6 @@ module _ (v : Volume) (known : IsVolume v) (element : ℕ) (part : Part) (is_par
   element_le : over_element (λ e position. how_many (map (copied_on v e position) (range_with_len 0 (capacity v)))) v.parts element + parity_of (Some part) ≤ extents_of (Some part)
   element_le = let cells = cells_all in let inside = in_part (keeps_parity part.shape.layout) refl in omega (arith, cells, inside)
 
-get_at : (xs : List Part) (k : ℕ) → k < length xs → (x : Part) × (slice_get xs k ≡ Some x)
-get_at [] k below = absurd (omega (arith, below))
-get_at (x ∷ xs) zero below = (x, refl)
-get_at (x ∷ xs) (suc k) below = get_at xs k (omega (arith, below))
-
 pub sectors_in_extents : (v : Volume) → IsVolume v → resync_sectors v ≤ extent_sectors v
 sectors_in_extents v known =
     let cells : ℕ → ℕ → ℕ = λ e position. how_many (map (copied_on v e position) (range_with_len 0 (capacity v))) in
@@ -254,7 +244,7 @@ sectors_in_extents v known =
     let both = sum_of (λ e. over_element cells v.parts e + parity_of (slice_get v.parts e)) (over_element cells v.parts) (λ e. parity_of (slice_get v.parts e)) (range_with_len 0 n) (λ e. refl) in
     let each = le_range (λ e. over_element cells v.parts e + parity_of (slice_get v.parts e)) (λ e. extents_of (slice_get v.parts e)) 0 n
     (λ e above below.
-    let part = get_at v.parts e (omega (arith, below)) in
+    let part = some_at_place v.parts e (omega (arith, below)) in
     let le = element_le v known e part.0 part.1 in
     let a : parity_of (slice_get v.parts e) ≡ parity_of (Some part.0) = ap parity_of part.1 in
     let b : extents_of (slice_get v.parts e) ≡ extents_of (Some part.0) = ap extents_of part.1 in

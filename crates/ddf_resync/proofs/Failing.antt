@@ -1,10 +1,11 @@
 -- The slots of reads that fail are those of available places; the sites of rows.
 use Rattle.std.proofs.Common.{◌≡◌, ◌∙◌, ℕ, zero, suc, ◌+◌, ◌<◌, ◌≤◌, Bool, true, false, List, [], ◌∷◌, ◌++◌, Option, Some, None, refl, sym, ap, arith, map, length, slice_get}
-use Rattle.std.specs.Prelude.{◌==◌, ◌&&◌, not, is_some, option_map, option_to_list, if◌then◌else◌}
+use Rattle.std.specs.Prelude.{◌==◌, ◌&&◌, is_some, option_map, option_to_list, if◌then◌else◌}
 use Rattle.std.specs.List.{flat_map, list_all, range_with_len}
 use Rattle.std.proofs.lemmas.Bool.{eqb-true}
 use Rattle.std.proofs.lemmas.Option.{slice_get_within}
-use Rattle.ddf_primary.proofs.Lists.{slice_get-range}
+use Rattle.ddf_lemmas.proofs.Lists.{mapped_at, slice_get-range, list_all_from, some_at_place}
+use Rattle.ddf_lemmas.proofs.Tests.{true_not_false}
 use Rattle.ddf_array.specs.declared.part.Part.{Part}
 use Rattle.ddf_array.specs.declared.place.Place.{Place}
 use Rattle.ddf_array.specs.declared.site.Site.{Site}
@@ -14,16 +15,13 @@ use Rattle.ddf_array.specs.Redundant.{whole_row}
 use Rattle.ddf_read.specs.Along.{further}
 use Rattle.ddf_read.specs.Sums.{other_site, other_sites}
 use Rattle.ddf_read.proofs.SourcesAlong.{site_further}
-use Rattle.ddf_cells.proofs.Lists.{some_not_none, to_map, true_not_false}
+use Rattle.ddf_cells.proofs.Lists.{some_not_none}
 use Rattle.ddf_cells.proofs.Surely.{of_place}
 use Rattle.ddf_array.proofs.Enough.{all_pass, site_there}
+use Rattle.ddf_array.proofs.RowParity.{rest_of}
 use Rattle.ddf_resync.specs.Agreeing.{AllOrNot, Decides, IsStep, IsValue}
 
 -- ---- whole rows
-
-rest_of : (x : Site) (o : Option (List Site)) (all : List Site) → option_map (λ l. x ∷ l) o ≡ Some all → (rest : List Site) × (o ≡ Some rest) × (x ∷ rest ≡ all)
-rest_of x None all e = absurd (some_not_none all (sym e))
-rest_of x (Some rest) all e = (rest, refl, cc)
 
 module _ (places : List Place) (sector k : ℕ) where
   not_last : (n : ℕ) → n < length places → (b : Bool) → (n == length places) ≡ b → b ≡ false
@@ -60,17 +58,13 @@ all_each (None ∷ xs) all k o e at = absurd (some_not_none all (sym e))
 all_each (Some x ∷ xs) all zero o e at = let same : Some x ≡ o = cc in (x, sym same)
 all_each (Some x ∷ xs) all (suc k) o e at = let rest = rest_of x (all_of xs) all e in all_each xs rest.0 k o rest.1 at
 
-all_by : (p : Place → Bool) (xs : List Place) → ((k : ℕ) (x : Place) → slice_get xs k ≡ Some x → p x ≡ true) → list_all p xs ≡ true
-all_by p [] each = refl
-all_by p (x ∷ xs) each = ap (λ b. b && list_all p xs) (each 0 x refl) ∙ all_by p xs (λ k y at. each (suc k) y at)
-
 -- where a row is whole, all places are available
 pub whole_available : (part : Part) (sector : ℕ) (sites : List Site) → whole_row part sector ≡ Some sites → list_all is_available part.places ≡ true
 whole_available part sector sites e =
-    all_by is_available part.places
+    list_all_from is_available part.places
     (λ k place at.
     let inside = slice_get_within part.places k place at in
-    let there = to_map (λ position. site_at part.places position sector) (range_with_len 0 (length part.places)) k k (slice_get-range 0 (length part.places) k inside ∙ ap Some (omega arith)) in
+    let there = mapped_at (λ position. site_at part.places position sector) (range_with_len 0 (length part.places)) k k (slice_get-range 0 (length part.places) k inside ∙ ap Some (omega arith)) in
     let one = all_each (map (λ position. site_at part.places position sector) (range_with_len 0 (length part.places))) sites k (site_at part.places k sector) e there in
     let of = of_place part.places k sector one.0 one.1 in
     let same : of.place ≡ place = places_are of.place place (sym of.is_place ∙ at) in
@@ -93,15 +87,10 @@ module _ (at : ℕ → Option Site) where
   all_there n (suc m) each =
       some_first (at n) (range_with_len (n + 1) m) (each n (omega arith) (omega arith)) (all_there (n + 1) m (λ k from below. each k (omega (arith, from)) (omega (arith, below))))
 
-get_at : (xs : List Place) (k : ℕ) → k < length xs → (x : Place) × (slice_get xs k ≡ Some x)
-get_at [] k below = absurd (omega (arith, below))
-get_at (x ∷ xs) zero below = (x, refl)
-get_at (x ∷ xs) (suc k) below = get_at xs k (omega (arith, below))
-
 pub available_whole : (part : Part) (sector : ℕ) → list_all is_available part.places ≡ true → (sites : List Site) × (whole_row part sector ≡ Some sites)
 available_whole part sector all =
     all_there (λ position. site_at part.places position sector) 0 (length part.places)
-    (λ k from below. let found = get_at part.places k (omega (arith, below)) in site_there part.places k sector found.0 found.1 (all_pass is_available part.places all k found.0 found.1))
+    (λ k from below. let found = some_at_place part.places k (omega (arith, below)) in site_there part.places k sector found.0 found.1 (all_pass is_available part.places all k found.0 found.1))
 
 -- ---- tests of neighbours
 
@@ -129,10 +118,6 @@ pub all_bad : (P : ℕ → Type 0) (b : Bool) (count : ℕ) → b ≡ false → 
 all_bad P true count is all = absurd (true_not_false is)
 all_bad P false count is all = all
 
-pub not_false : (b : Bool) → not b ≡ false → b ≡ true
-not_false true e = refl
-not_false false e = sym e
-
 pub decides : (P : Type 0) (b : Bool) → (b ≡ true → P) → (b ≡ false → P → ⊥) → Decides b P
 decides P true good bad = good refl
 decides P false good bad = bad refl
@@ -148,7 +133,3 @@ value_there false found bytes is e = absurd (true_not_false (sym is))
 pub value_missing : (b : Bool) (found : Option (List ℕ)) (bytes : List ℕ) → b ≡ false → IsValue b found bytes → found ≡ None
 value_missing true found bytes is e = absurd (true_not_false is)
 value_missing false found bytes is e = e
-
-pub some_of : {X : Type 0} (o : Option X) → is_some o ≡ true → (x : X) × (o ≡ Some x)
-some_of None is = absurd (true_not_false (sym is))
-some_of (Some x) is = (x, refl)

@@ -2,7 +2,11 @@
 use Rattle.std.proofs.Common.{◌≡◌, ◌∙◌, ℕ, ◌<◌, Bool, true, false, List, [], ◌∷◌, Option, Some, None, refl, sym, ap, subst, slice_get}
 use Rattle.std.specs.Prelude.{◌&&◌, ◌==◌}
 use Rattle.std.specs.List.{list_any}
-use Rattle.std.proofs.lemmas.Bool.{eqb-true, eq-eqb}
+use Rattle.std.proofs.lemmas.Bool.{eqb-true, eq-eqb, and_from}
+use Rattle.std.proofs.lemmas.Map.Keys.{any_passes_from_place}
+use Rattle.std.proofs.lemmas.Option.{same_Some}
+use Rattle.ddf_lemmas.proofs.Lists.{get_filter_map}
+use Rattle.ddf_lemmas.proofs.Tests.{and_first, and_second}
 use Rattle.ddf_bay.specs.Sectors.{Image}
 use Rattle.ddf_primary.specs.Cells.{depth_of}
 use Rattle.ddf_primary.proofs.ShapeFacts.{cell_facts}
@@ -19,19 +23,10 @@ use Rattle.ddf_array.specs.Values.{bytes_at}
 use Rattle.ddf_array.specs.Redundant.{IsConsistent, IsRedundant}
 use Rattle.ddf_array.specs.Rows.{block_at, holds}
 use Rattle.ddf_array.specs.Sound.{AreSectors}
-use Rattle.ddf_array.proofs.Bools.{and_first, and_second}
-use Rattle.ddf_array.proofs.Consistent.{at_part, consistent_if, redundant_if, to_filter, to_flat}
+use Rattle.ddf_array.proofs.Consistent.{at_part, consistent_if, redundant_if, to_flat, in_filter, in_flat}
 use Rattle.ddf_cells.proofs.BlockOf.{both, cell_in, held}
-use Rattle.ddf_cells.proofs.Lists.{any_passes, find_is, find_passes, in_filter, in_flat, passing, some_not_none}
+use Rattle.ddf_cells.proofs.Lists.{find_is, find_passes, passing, some_not_none}
 use Rattle.ddf_resync.specs.Agreeing.{Agrees}
-
-both_true : (a b : Bool) → a ≡ true → b ≡ true → (a && b) ≡ true
-both_true true true p q = refl
-both_true true false p q = q
-both_true false b p q = p
-
-some_is : {X : Type 0} (x y : X) → Some x ≡ Some y → x ≡ y
-some_is x y e = cc
 
 module _ (v : Volume) (known : IsVolume v) where
   -- a position that holds a block holds no other
@@ -48,7 +43,7 @@ module _ (v : Volume) (known : IsVolume v) where
       let spot = subst (λ n. secondary.Holds v.tiers (record { element = element; block = n }) x) inner there.spot_holds in
       ap Some ((spot_facts v.tiers known.array_is).apart (record { element = element; block = here.inner }) block x here.spot_holds spot))
       (λ x e.
-      let same : block ≡ x = some_is block x e in
+      let same : block ≡ x = same_Some block x e in
       let fits = held v known element position sector part part_at block here.inner here.spot_holds here.cell_holds in
       (subst (λ n. n < capacity v) same fits.1, subst (λ n. holds v element position sector n ≡ true) same fits.0)))
 
@@ -57,13 +52,13 @@ module _ (v : Volume) (known : IsVolume v) where
       → slice_get (element_cells part.shape spot.block) k ≡ Some cell → block_at v spot.element cell.0 cell.1 ≡ Some block
   spot_holds block j k spot part cell spot_at part_at cell_at =
       let inside : list_any (λ (c : ℕ × ℕ). c.0 == cell.0 && c.1 == cell.1) (element_cells part.shape spot.block) ≡ true =
-      any_passes (λ (c : ℕ × ℕ). c.0 == cell.0 && c.1 == cell.1) (element_cells part.shape spot.block) k cell cell_at (both_true (cell.0 == cell.0) (cell.1 == cell.1) (eq-eqb cell.0 cell.0 refl) (eq-eqb cell.1 cell.1 refl)) in
+      any_passes_from_place (λ (c : ℕ × ℕ). c.0 == cell.0 && c.1 == cell.1) (element_cells part.shape spot.block) k cell cell_at (and_from (cell.0 == cell.0) (cell.1 == cell.1) (eq-eqb cell.0 cell.0 refl) (eq-eqb cell.1 cell.1 refl)) in
       let in_part : Option Part → Bool = λ (found : Option Part). elim found [ None ↦ false | Some p ↦ list_any (λ (c : ℕ × ℕ). c.0 == cell.0 && c.1 == cell.1) (element_cells p.shape spot.block) ] in
       found_is spot.element cell.0 cell.1 block part part_at
-      (any_passes
+      (any_passes_from_place
       (λ (s : Spot). s.element == spot.element && elim (slice_get v.parts spot.element) [ None ↦ false | Some p ↦ list_any (λ (c : ℕ × ℕ). c.0 == cell.0 && c.1 == cell.1) (element_cells p.shape s.block) ])
       (block_spots v block) j spot spot_at
-      (both_true (spot.element == spot.element) (in_part (slice_get v.parts spot.element)) (eq-eqb spot.element spot.element refl) (ap in_part part_at ∙ inside)))
+      (and_from (spot.element == spot.element) (in_part (slice_get v.parts spot.element)) (eq-eqb spot.element spot.element refl) (ap in_part part_at ∙ inside)))
 
   -- ---- an available cell of a block
 
@@ -135,7 +130,7 @@ module _ (v : Volume) (known : IsVolume v) where
   among_copies block element position sector part own part_at is own_at =
       let at = spot_of block element position sector part part_at is in
       let there : site_at part.places at.cell.0 at.cell.1 ≡ Some own = ap (λ p. site_at part.places p at.cell.1) at.position_is ∙ ap (site_at part.places position) at.sector_is ∙ own_at in
-      let inner = to_filter (λ (c : ℕ × ℕ). site_at part.places c.0 c.1) (element_cells part.shape at.spot.block) at.k at.cell own at.cell_at there in
+      let inner = get_filter_map (λ (c : ℕ × ℕ). site_at part.places c.0 c.1) (element_cells part.shape at.spot.block) at.k at.cell own at.cell_at there in
       to_flat (at_spot v.parts element_copies) (block_spots v block) at.j inner.0 at.spot own at.spot_at
       (ap (λ (l : List Site). slice_get l inner.0) (at_part v.parts element_copies at.spot part (ap (slice_get v.parts) at.element_is ∙ part_at)) ∙ inner.1)
 

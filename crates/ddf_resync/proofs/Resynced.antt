@@ -1,9 +1,12 @@
 -- An array whose copies were made equal, and then its parity right.
-use Rattle.std.proofs.Common.{◌≡◌, ◌∙◌, ◌⊎◌, inl, inr, ⊎_elim, ℕ, zero, suc, ◌/◌, ◌<◌, Bool, true, false, not, List, [], ◌∷◌, Some, None, refl, sym, ap, subst, arith, map, length, slice_get}
+use Rattle.std.proofs.Common.{◌≡◌, ◌∙◌, ◌⊎◌, inl, inr, ⊎_elim, ℕ, ◌/◌, ◌<◌, Bool, true, false, not, List, Some, None, refl, sym, ap, subst, arith, map, length, slice_get}
 use Rattle.std.specs.Prelude.{◌==◌, ◌&&◌, ◌||◌, if◌then◌else◌, nat_le}
 use Rattle.std.proofs.lemmas.Bool.{eqb-true, leb-false}
 use Rattle.std.specs.List.{list_any}
 use Rattle.std.proofs.lemmas.Option.{slice_get_within}
+use Rattle.ddf_lemmas.proofs.Lists.{none_any, some_at_place}
+use Rattle.ddf_lemmas.proofs.Options.{some_is}
+use Rattle.ddf_lemmas.proofs.Tests.{or_first, or_second}
 use Rattle.ddf_bay.specs.Sectors.{Image}
 use Rattle.ddf_primary.specs.Cells as cells_of
 use Rattle.ddf_primary.specs.Cells.{cells}
@@ -23,7 +26,6 @@ use Rattle.ddf_array.specs.Sources.{copies, copy}
 use Rattle.ddf_array.specs.Values.{bytes_at}
 use Rattle.ddf_array.specs.Volume.{Volume, IsVolume, Fits, capacity}
 use Rattle.ddf_array.specs.Within.{is_mirrored, is_redundant, is_within, keeps_more}
-use Rattle.ddf_array.proofs.Bools.{or_first, or_second}
 use Rattle.ddf_array.proofs.Elements.{parts_count}
 use Rattle.ddf_read.specs.Reading.{IsGivenBy}
 use Rattle.ddf_read.specs.declared.fault.VolumeFault.{VolumeFault}
@@ -35,7 +37,6 @@ use Rattle.ddf_cells.specs.Parity.{IsParityCell}
 use Rattle.ddf_cells.proofs.AlongStrips.{first_spot}
 use Rattle.ddf_cells.proofs.CopiesOn.{on_position, sits_below}
 use Rattle.ddf_cells.proofs.Ends.{touched_by}
-use Rattle.ddf_cells.proofs.Items.{any_at}
 use Rattle.ddf_cells.proofs.OnCells.{on_cell, spot_of}
 use Rattle.ddf_cells.proofs.ParityCells.{no_copy}
 use Rattle.ddf_cells.proofs.Redundance.{made_redundant}
@@ -47,9 +48,6 @@ use Rattle.ddf_cells.specs.Touching.{IsGivenOn, IsTouchedSlot, Writes}
 use Rattle.ddf_resync.specs.Setting.{AreNotedIn, AreRightIn, SetsParity}
 use Rattle.ddf_resync.proofs.Copied.{given_alone}
 use Rattle.ddf_resync.proofs.SeveralCells.{not_several}
-
-some_is : {X : Type 0} {a b : X} → Some a ≡ Some b → a ≡ b
-some_is e = cc
 
 -- a block with an available cell is one of the array
 pub copy_below : (v : Volume) → IsVolume v → (block i : ℕ) (one : Site) → slice_get (copies v block) i ≡ Some one → block < capacity v
@@ -170,21 +168,6 @@ module _ (v : Volume) (known : IsVolume v) (one_element : is_mirrored v ≡ fals
 
 -- ---- an array that isn't redundant by its level
 
-none_any : {X : Type 0} (test : X → Bool) (xs : List X) (k : ℕ) (x : X) → list_any test xs ≡ false → slice_get xs k ≡ Some x → test x ≡ false
-none_any test xs k x none at = by (test x) refl
-  where
-    by : (b : Bool) → test x ≡ b → b ≡ false
-    by false is = refl
-    by true is = absurd (differ (sym (any_at test xs k x at is) ∙ none))
-      where
-        differ : true ≡ false → ⊥
-        differ e = cc
-
-at_index : {X : Type 0} (xs : List X) (n : ℕ) → n < length xs → (x : X) × (slice_get xs n ≡ Some x)
-at_index [] n below = absurd (omega (arith, below))
-at_index (x ∷ xs) zero below = (x, refl)
-at_index (x ∷ xs) (suc n) below = at_index xs n (omega (arith, below))
-
 module _ (v : Volume) (known : IsVolume v) (plain : is_redundant v ≡ false) where
   one_element : is_mirrored v ≡ false
   one_element = or_first (is_mirrored v) (list_any keeps_more v.parts) plain
@@ -200,7 +183,7 @@ module _ (v : Volume) (known : IsVolume v) (plain : is_redundant v ≡ false) wh
       let spot = spot_of first.0 cell.sits.inner in
       let facts = spot_facts v.tiers known.array_is in
       let within = facts.element_within spot block (facts.named spot block first.1) in
-      let part = at_index v.parts first.0 (omega (arith, within, parts_count v known)) in
+      let part = some_at_place v.parts first.0 (omega (arith, within, parts_count v known)) in
       one_copy v known one_element block spot first.1 part.0 part.1 (or_first (keeps_copies part.0.shape.layout) (keeps_parity part.0.shape.layout) (keeps_none first.0 part.0 part.1)) i j one other at_i at_j
 
   no_parity : (element : ℕ) (part : Part) → slice_get v.parts element ≡ Some part → keeps_parity part.shape.layout ≡ true → ⊥
@@ -235,7 +218,3 @@ not_refused_by true false a b none = (refl, refl)
 
 pub not_refused : (v : Volume) → resync_refusal v ≡ None → (is_within v ≡ true) × (is_degraded v ≡ false)
 not_refused v none = not_refused_by (is_within v) (is_degraded v) Lost Unsure none
-
-pub is_marked : (marked : Bool) → not marked ≡ false → marked ≡ true
-is_marked true e = refl
-is_marked false e = absurd (cc)

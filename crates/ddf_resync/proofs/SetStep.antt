@@ -1,6 +1,7 @@
 -- One run of parity cells that is summed and written.
 use Rattle.std.proofs.Common.{◌≡◌, ◌∙◌, ℕ, ◌+◌, ◌/◌, ◌<◌, ◌≤◌, Bool, false, true, List, [], Some, sym, ap, subst, arith, length, slice_get}
 use Rattle.std.specs.Prelude.{option_map, slice_index_or, slice_set}
+use Rattle.ddf_lemmas.proofs.Options.{some_is}
 use Rattle.ddf_bay.specs.Sectors.{Image, put_run}
 use Rattle.ddf_bay.specs.State.{BayState}
 use Rattle.ddf_bay.specs.Moments.{Adds, IsAmong, Mixes, SpendsWrites, StopsLeave}
@@ -26,9 +27,6 @@ use Rattle.ddf_cells.proofs.ParityCells.{parity_holds, run_gives, run_keeps, run
 use Rattle.ddf_cells.proofs.Whole.{whole_site}
 use Rattle.ddf_cells.proofs.WriteSteps.{touch_here, writes_read, writes_run, writes_then}
 use Rattle.ddf_resync.specs.Setting.{IsNotedAt, IsRightAt, KeepsRight, SetsParity}
-
-some_is : {X : Type 0} {a b : X} → Some a ≡ Some b → a ≡ b
-some_is e = cc
 
 -- the position with the parity, as it is found
 pub parity_is : (part : Part) (sector strip found parity : ℕ) → strip ≡ part.shape.strip → Some found ≡ parity_member part.shape (sector / strip) → parity ≡ found → parity_member part.shape (sector / part.shape.strip) ≡ Some parity

@@ -2,37 +2,32 @@
 use Rattle.std.proofs.Common.{◌≡◌, ◌∙◌, ℕ, zero, suc, ◌+◌, ◌-◌, ◌<◌, ◌≤◌, Bool, true, false, List, [], ◌∷◌, ◌++◌, Option, Some, None, refl, sym, ap, subst, arith, map, length, slice_get, ◌&&◌, ◌||◌}
 use Rattle.std.specs.Prelude.{◌==◌, not, if◌then◌else◌}
 use Rattle.std.specs.List.{list_any, range_with_len, sum_by}
-use Rattle.std.proofs.lemmas.Bool.{eqb-true, eq-eqb}
+use Rattle.std.proofs.lemmas.Bool.{eqb-true, eq-eqb, not-false}
 use Rattle.std.proofs.lemmas.List.{map-append}
 use Rattle.std.proofs.lemmas.List.Sums.{sum_by-cons}
+use Rattle.std.proofs.lemmas.Map.Keys.{any_passes_from_place}
+use Rattle.ddf_lemmas.proofs.Lists.{range-append}
+use Rattle.ddf_lemmas.proofs.Options.{some_is}
+use Rattle.ddf_lemmas.proofs.Tests.{and_first, and_second, or_first, or_second, true_not_false}
 use Rattle.ddf_array.specs.declared.part.Part.{Part}
 use Rattle.ddf_array.specs.declared.site.Site.{Site}
 use Rattle.ddf_array.specs.Places.{site_on}
 use Rattle.ddf_array.specs.Sources.{copies, first_copy}
 use Rattle.ddf_array.specs.Volume.{Volume, IsVolume}
-use Rattle.ddf_array.proofs.Bools.{and_first, and_second, or_first, or_second}
-use Rattle.ddf_array.proofs.Ranges.{range-append}
 use Rattle.ddf_read.specs.Along.{LieAlong, further}
 use Rattle.ddf_cells.specs.CellsOn.{cell_on, cells_on, how_many, over_array, over_element, places_at, write_cells}
 use Rattle.ddf_cells.proofs.CopiesOn.{a_copy, on_position}
-use Rattle.ddf_cells.proofs.Items.{any_at, passing}
-use Rattle.ddf_cells.proofs.Lists.{some_not_none, true_not_false}
+use Rattle.ddf_cells.proofs.Items.{passing}
+use Rattle.ddf_cells.proofs.Lists.{some_not_none}
 use Rattle.ddf_cells.proofs.RunsOn.{sum_below, sum_more}
 use Rattle.ddf_resync.specs.Copying.{AreThisOn, HasOneCopy, HasOtherOn}
 use Rattle.ddf_resync.specs.Several.{copied_cells, copied_on, has_other, is_beside, parity_cells, parity_of}
 
-some_is : {X : Type 0} {a b : X} → Some a ≡ Some b → a ≡ b
-some_is e = cc
-
 -- ---- a sector beside another
-
-not_not : (b : Bool) → not b ≡ false → b ≡ true
-not_not true e = refl
-not_not false e = absurd (cc)
 
 is_one : (one other : Site) → is_beside one other ≡ false → other ≡ one
 is_one one other is =
-    let both = not_not (other.slot == one.slot && other.lba == one.lba) is in
+    let both = not-false (other.slot == one.slot && other.lba == one.lba) is in
     ap (λ s. site_on s other.lba) (eqb-true other.slot one.slot (and_first (other.slot == one.slot) (other.lba == one.lba) both))
     ∙ ap (site_on one.slot) (eqb-true other.lba one.lba (and_second (other.slot == one.slot) (other.lba == one.lba) both))
 
@@ -62,7 +57,7 @@ module _ (v : Volume) (block : ℕ) where
     pub other_there : (element : ℕ) → HasOtherOn v element block first → has_other v block ≡ true
     other_there element on =
         let at = a_copy v known block element on.position on.other on.is_cell in
-        by_first first is_first ∙ any_at (is_beside first) (copies v block) at.0 on.other at.1 (beside first on.other on.differs)
+        by_first first is_first ∙ any_passes_from_place (is_beside first) (copies v block) at.0 on.other at.1 (beside first on.other on.differs)
 
     pub no_other : ((element : ℕ) (part : Part) → slice_get v.parts element ≡ Some part → AreThisOn v element (length part.places) block first) → has_other v block ≡ false
     no_other this = by (list_any (is_beside first) (copies v block)) refl

@@ -5,6 +5,7 @@ use Rattle.std.specs.Prelude.{slice_get}
 use Rattle.std.specs.Option.{option_or, option_map_or}
 use Rattle.std.specs.List.{enumerate_from, range_with_len}
 use Rattle.std.specs.Str.{bytes_eq}
+use Rattle.ddf_lemmas.proofs.Lists.{bytes_same, found_place, in_map, in_second, mapped_at, some_at_place}
 use Rattle.ddf_bytes.specs.Choices.{first_of}
 use Rattle.ddf_header.specs.declared.geometry.Geometry.{Geometry}
 use Rattle.ddf_config_records.specs.ElementValue.{ElementValue}
@@ -18,8 +19,7 @@ use Rattle.ddf_config.specs.Configuration.{Configuration}
 use Rattle.ddf_config.specs.Members.{is_spare}
 use Rattle.ddf_config.specs.declared.member.SpareUse.{SpareUse}
 use Rattle.ddf_view.specs.View.{element_of, find_held, held_from, note_at}
-use Rattle.ddf_view.proofs.Finds.{place_there}
-use Rattle.ddf_view.proofs.Tests.{same_bytes, bytes_same}
+use Rattle.ddf_view.proofs.Tests.{same_bytes}
 use Rattle.ddf_rewrite.specs.Copies.{element_item, element_slot, items_of, left_slot, one_if, record_of, slot_after, unused_slot}
 use Rattle.ddf_rewrite.specs.Notes.{Holding, find_holding, no_note, note_for, note_of, notes_after}
 use Rattle.ddf_rewrite.specs.Placement.{is_slot_of, item_at}
@@ -27,7 +27,8 @@ use Rattle.ddf_rewrite.specs.declared.item.Item.TheVariants as kinds
 use Rattle.ddf_rewrite.specs.declared.item.Item.{Item}
 use Rattle.ddf_rewrite.specs.declared.item.Slotted.{Slotted}
 use Rattle.ddf_rewrite.proofs.InPlace.{AreInPlace}
-use Rattle.ddf_rewrite.proofs.Lists.{get_map, map_get, get_enumerated, get_range, found_place}
+use Rattle.ddf_rewrite.proofs.Lists.{get_enumerated, get_range}
+use Rattle.ddf_rewrite.proofs.Placing.{no_slot}
 
 -- ---- lists of slots
 
@@ -84,18 +85,18 @@ made_slots geometry holdings notes spare placed all = map (slot_after geometry h
 placed_slot : (geometry : Geometry) (holdings : List Holding) (notes : Notes) (spare : SpareRecord) (placed : List Slotted) (all : List RecordSlot) (k : ℕ) → k < length all
     → (slot : RecordSlot) × (slice_get (made_slots geometry holdings notes spare placed all) k ≡ Some (option_map_or (record_of geometry holdings notes spare) (item_at placed k) (left_slot geometry slot)))
 placed_slot geometry holdings notes spare placed all k lt =
-    let there = place_there all k lt in
+    let there = some_at_place all k lt in
     let at = get_enumerated 0 all k there.0 there.1 in
     let here : at.0 ≡ k = at.1 ∙ omega arith in (
       there.0,
-      get_map (slot_after geometry holdings notes spare placed) (enumerate_from 0 all) k (at.0, there.0) at.2
+      mapped_at (slot_after geometry holdings notes spare placed) (enumerate_from 0 all) k (at.0, there.0) at.2
           ∙ ap (λ (n : ℕ). Some (option_map_or (record_of geometry holdings notes spare) (item_at placed n) (left_slot geometry there.0))) here,
     )
 
 pub slot_placed : (geometry : Geometry) (holdings : List Holding) (notes : Notes) (spare : SpareRecord) (placed : List Slotted) (all : List RecordSlot) (k : ℕ) (slot : RecordSlot) → slice_get (made_slots geometry holdings notes spare placed all) k ≡ Some slot
     → (old : RecordSlot) × (slot ≡ option_map_or (record_of geometry holdings notes spare) (item_at placed k) (left_slot geometry old))
 slot_placed geometry holdings notes spare placed all k slot h =
-    let from = map_get (slot_after geometry holdings notes spare placed) (enumerate_from 0 all) k slot h in
+    let from = in_map (slot_after geometry holdings notes spare placed) (enumerate_from 0 all) k slot h in
     let lt = enumerated_within 0 all k from.0 from.1 in
     let is = placed_slot geometry holdings notes spare placed all k lt in
     let got : Some slot ≡ Some (option_map_or (record_of geometry holdings notes spare) (item_at placed k) (left_slot geometry is.0)) = sym h ∙ is.1 in
@@ -151,13 +152,10 @@ pub record AreOwn (holdings : List Holding) : Type 0 where
 key_in_slot : (array : List ℕ) (index : ℕ) (slot : RecordSlot) (element : ElementValue) → element_of slot ≡ Some element → is_slot_of array index slot ≡ (bytes_eq element.array array && eqb element.index index)
 key_in_slot array index slot element is = ap (λ o. option_map_or (λ (e : ElementValue). bytes_eq e.array array && eqb e.index index) o false) is
 
-no_key : (array : List ℕ) (index : ℕ) (slot : RecordSlot) → element_of slot ≡ None → is_slot_of array index slot ≡ true → ⊥
-no_key array index slot is h = false≢true (sym (ap (λ o. option_map_or (λ (e : ElementValue). bytes_eq e.array array && eqb e.index index) o false) is) ∙ h)
-
 -- a record of an element stands where that element is placed
 placed_key : (geometry : Geometry) (holdings : List Holding) (notes : Notes) (spare : SpareRecord) (old : RecordSlot) → AreOwn holdings
     → (array : List ℕ) (index : ℕ) (o : Option Item) → is_slot_of array index (option_map_or (record_of geometry holdings notes spare) o (left_slot geometry old)) ≡ true → o ≡ Some (kinds.Element array index)
-placed_key geometry holdings notes spare old own array index None h = absurd (no_key array index (left_slot geometry old) (left_no_element geometry old) h)
+placed_key geometry holdings notes spare old own array index None h = absurd (no_slot array index (left_slot geometry old) (left_no_element geometry old) h)
 placed_key geometry holdings notes spare old own array index (Some kinds.Notes) h = absurd (false≢true h)
 placed_key geometry holdings notes spare old own array index (Some kinds.Spare) h = absurd (false≢true h)
 placed_key geometry holdings notes spare old own array index (Some (kinds.Element other place)) h = go (find_holding other place holdings) refl h
@@ -192,19 +190,15 @@ unfolding notes_after
 note_is config holdings placed count k lt =
     let at = get_range 0 count k lt in
     let here : at.0 ≡ k = at.1 ∙ omega arith in
-    get_map (λ slot. note_for holdings (item_at placed slot)) (range_with_len 0 count) k at.0 at.2 ∙ ap (λ (n : ℕ). Some (note_for holdings (item_at placed n))) here
-
-get_after : {X : Type 0} (xs ys : List X) (i : ℕ) (x : X) → slice_get ys i ≡ Some x → (j : ℕ) × (slice_get (xs ++ ys) j ≡ Some x)
-get_after [] ys i x h = (i, h)
-get_after (z ∷ xs) ys i x h = let rest = get_after xs ys i x h in (suc rest.0, rest.1)
+    mapped_at (λ slot. note_for holdings (item_at placed slot)) (range_with_len 0 count) k at.0 at.2 ∙ ap (λ (n : ℕ). Some (note_for holdings (item_at placed n))) here
 
 abbrev item_for : Holding → Item
 item_for holding = kinds.Element holding.wanted.guid holding.wanted.index
 
 holding_item : (noted : Bool) (use_as : SpareUse) (holdings : List Holding) (n : ℕ) (holding : Holding) → slice_get holdings n ≡ Some holding → (i : ℕ) × (slice_get (items_of noted use_as holdings) i ≡ Some (item_for holding))
 holding_item noted use_as holdings n holding h =
-    let one = get_map item_for holdings n holding h in
-    get_after (one_if noted kinds.Notes ++ one_if (is_spare use_as) kinds.Spare) (map item_for holdings) n (item_for holding) one
+    let one = mapped_at item_for holdings n holding h in
+    in_second (one_if noted kinds.Notes ++ one_if (is_spare use_as) kinds.Spare) (map item_for holdings) n (item_for holding) one
 
 -- ---- what the copy says
 

@@ -14,6 +14,7 @@ use Rattle.ddf_config.specs.Configuration.{Configuration}
 use Rattle.ddf_view.specs.Differ.{difference, element_differs, held_differ, numbered_array, numbered_disk, same_array, same_disk, same_held, same_record}
 use Rattle.ddf_view.specs.Reading.{disks_in, read}
 use Rattle.ddf_view.specs.View.{HeldRecord, View, find_held, view_of}
+use Rattle.ddf_view.proofs.Common.{disk_itself}
 use Rattle.ddf_rewrite.specs.Arrays.{arrays_after}
 use Rattle.ddf_rewrite.specs.Before.{before}
 use Rattle.ddf_rewrite.specs.Copies.{own_record, recovered_copy, recovered_holding}
@@ -22,7 +23,7 @@ use Rattle.ddf_rewrite.specs.Hold.{CanBeRecovered}
 use Rattle.ddf_rewrite.specs.Notes.{Holding, note_of}
 use Rattle.ddf_rewrite.specs.Wanted.{Wanted, all_wanted}
 use Rattle.ddf_rewrite.proofs.Agreeing.{arrays_alike, find_alike, held_alike}
-use Rattle.ddf_rewrite.proofs.Differences.{disk_self, elements_alike, no_difference}
+use Rattle.ddf_rewrite.proofs.Differences.{elements_alike, no_difference}
 use Rattle.ddf_rewrite.proofs.Filled.{both_filled}
 use Rattle.ddf_rewrite.proofs.Holdings.{AreSame, same_again, same_back, same_on}
 use Rattle.ddf_rewrite.proofs.Led.{is_led, led_same}
@@ -93,7 +94,7 @@ module _ (old other : DiskCopy) (group : List ℕ) (sequence : ℕ) (views : Lis
       (λ n disk. refl) one_disk 0 (disks_in views))
     where
       one_disk : (n : ℕ) (disk : DiskEntry) → same_disk (n, disk_on (view_of old).disks (number_at w16 disk.rest DISK_BLOCK_SIZE_AT) disk) (n, disk_on (view_of other).disks (number_at w16 disk.rest DISK_BLOCK_SIZE_AT) disk) ≡ true
-      one_disk n disk = disk_self (n, disk)
+      one_disk n disk = disk_itself (n, disk)
 
   -- The copies that a recovery gives two disks agree.
   pub recovered_agree : difference view other_view ≡ None

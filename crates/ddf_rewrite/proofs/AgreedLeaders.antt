@@ -1,12 +1,13 @@
 -- The copy that a recovery gives a disk agrees with each leader, where these agree with one another.
 use Rattle.std.proofs.Common.{◌≡◌, ℕ, inl, inr, Bool, true, false, not, eqb, List, [], ◌∷◌, map, Option, Some, None, refl, ap, sym, ◌∙◌, subst}
-use Rattle.std.proofs.lemmas.Bool.{and_from, and_parts, cases_order}
+use Rattle.std.proofs.lemmas.Bool.{and_from, and_parts, cases_order, not-false}
 use Rattle.std.proofs.lemmas.Simd.{map-map}
 use Rattle.std.specs.Prelude.{slice_get, option_map}
 use Rattle.std.specs.Option.{option_eq}
 use Rattle.std.specs.List.{AllByRecursion, enumerate_from}
 use Rattle.std.specs.Int.{w16}
 use Rattle.std.specs.Str.{bytes_eq}
+use Rattle.ddf_lemmas.proofs.Lists.{mapped_at}
 use Rattle.ddf_bytes.specs.Bytes.{number_at}
 use Rattle.ddf_tables.specs.declared.disks.DiskEntry.{DiskEntry}
 use Rattle.ddf_tables.specs.declared.arrays.ArrayEntry.{ArrayEntry}
@@ -18,12 +19,12 @@ use Rattle.ddf_copy.specs.declared.copy.DiskCopy.{DiskCopy}
 use Rattle.ddf_copy.specs.Written.{CanBeCopy}
 use Rattle.ddf_config.specs.Configuration.{Configuration}
 use Rattle.ddf_config.specs.ElementValue.{ElementValue as ElementPlan}
-use Rattle.ddf_config.specs.declared.element.Position.{Position}
 use Rattle.ddf_view.specs.Differ.{difference, element_differs, held_differ, numbered_array, numbered_disk, same_array, same_disk, same_held, same_notes, same_record}
 use Rattle.ddf_view.specs.Reading.{array_in, arrays_in, disks_in, elements_in, plan_of, position_of, read, stand_in_of}
 use Rattle.ddf_view.specs.Shows.{same_plan}
 use Rattle.ddf_view.specs.View.{HeldRecord, View, find_held, find_note, view_of}
-use Rattle.ddf_view.proofs.Shown.{plan_same}
+use Rattle.ddf_view.proofs.Shown.{plan_same, make_plan}
+use Rattle.ddf_view.proofs.Common.{plan_anywhere}
 use Rattle.ddf_rewrite.specs.Arrays.{array_on, arrays_after}
 use Rattle.ddf_rewrite.specs.Before.{before}
 use Rattle.ddf_rewrite.specs.Copies.{own_record, recovered_copy, recovered_holding}
@@ -33,12 +34,12 @@ use Rattle.ddf_rewrite.specs.Notes.{Holding}
 use Rattle.ddf_rewrite.specs.Readable.{OneRebuilt}
 use Rattle.ddf_rewrite.specs.Wanted.{Wanted, all_wanted}
 use Rattle.ddf_rewrite.proofs.After.{note_if}
-use Rattle.ddf_rewrite.proofs.Differences.{Agrees, agrees, agrees_back, agrees_self, elements_alike, no_difference, not_false, plans_alike}
+use Rattle.ddf_rewrite.proofs.Differences.{Agrees, agrees, agrees_back, agrees_self, elements_alike, no_difference, plans_alike}
 use Rattle.ddf_rewrite.proofs.Filled.{filled_alike, find_made}
 use Rattle.ddf_rewrite.proofs.Given.{plan_again}
 use Rattle.ddf_rewrite.proofs.Holdings.{AreSame, are_same, same_again, same_back, same_on}
 use Rattle.ddf_rewrite.proofs.Led.{is_led, led_same}
-use Rattle.ddf_rewrite.proofs.Lists.{get_map, some_same}
+use Rattle.ddf_rewrite.proofs.Lists.{some_same}
 use Rattle.ddf_rewrite.proofs.Noted.{NotesFirst, all_notes_first, found_in, noted_in, some_noted}
 use Rattle.ddf_rewrite.proofs.Plans.{HasPlan, plan_noted}
 use Rattle.ddf_rewrite.proofs.ReadCan.{is_read}
@@ -67,10 +68,6 @@ first_in (view ∷ views) k one at = (view, refl, refl, refl)
 
 -- ---- the plan of a record
 
-make_plan : (level qualifier strip blocks stand_in : ℕ) → List Position → ElementPlan
-make_plan level qualifier strip blocks stand_in positions =
-    record { level = level; qualifier = qualifier; strip = strip; blocks = blocks; stand_in = stand_in; positions = positions }
-
 -- records with the same fields give one plan
 plan_alike : (given : Option SlotNote) (one other : ElementValue) → AreSame one other → plan_of [] given one ≡ plan_of [] given other
 unfolding plan_of make_plan
@@ -85,11 +82,6 @@ plan_alike given one other same =
     let made : make_plan one.level one.qualifier one.strip one.blocks (stand_in_of given) (map (λ pair. position_of [] given pair.0 pair.1) (enumerate_from 0 one.members))
     ≡ make_plan other.level other.qualifier other.strip other.blocks (stand_in_of given) (map (λ pair. position_of [] given pair.0 pair.1) (enumerate_from 0 other.members)) = rw (level, qualifier, strip, blocks, positions) refl in
     made
-
--- with a note the states of the disks don't count
-plan_anywhere : (disks : List DiskEntry) (given : SlotNote) (element : ElementValue) → plan_of disks (Some given) element ≡ plan_of [] (Some given) element
-unfolding plan_of
-plan_anywhere disks given element = refl
 
 -- what two records say that are the same and have notes
 plans_same : (one other : HeldRecord) (first second : SlotNote) → same_held one other ≡ true → one.note ≡ Some first → other.note ≡ Some second → plan_of [] (Some first) one.element ≡ plan_of [] (Some second) other.element
@@ -113,7 +105,7 @@ module _ (old : DiskCopy) (group : List ℕ) (sequence : ℕ) (views : List View
   leaders_same : (m : ℕ) (one : View) (array : List ℕ) (index : ℕ) (held mine : HeldRecord) → slice_get views m ≡ Some one → find_held array index one.elements ≡ Some held → find_held array index leader.elements ≡ Some mine → same_held held mine ≡ true
   leaders_same m one array index held mine at found also =
       let alike = (all_agree views agreed m k one leader at leads).elements (array, index) in
-      not_false (same_held held mine) (sym (ap (λ o. held_differ o (find_held array index leader.elements)) found ∙ ap (held_differ (Some held)) also) ∙ alike)
+      not-false (same_held held mine) (sym (ap (λ o. held_differ o (find_held array index leader.elements)) found ∙ ap (held_differ (Some held)) also) ∙ alike)
 
   -- What is made of an element has the plan that a leader notes.
   plan_led : (n : ℕ) (wanted : Wanted) (mine : HeldRecord) (given : SlotNote) → slice_get (all_wanted config) n ≡ Some wanted → find_held wanted.guid wanted.index leader.elements ≡ Some mine → mine.note ≡ Some given
@@ -126,7 +118,7 @@ module _ (old : DiskCopy) (group : List ℕ) (sequence : ℕ) (views : List View
       let place = found_in wanted.guid wanted.index views is.held held in
       let same = (all_agree views agreed place.0 from.m place.1 from.view place.2 from.at).elements (wanted.guid, wanted.index) in
       let records : same_held is.held from.held ≡ true =
-      not_false (same_held is.held from.held) (sym (ap (λ o. held_differ o (find_held wanted.guid wanted.index from.view.elements)) place.3 ∙ ap (held_differ (Some is.held)) from.found) ∙ same) in
+      not-false (same_held is.held from.held) (sym (ap (λ o. held_differ o (find_held wanted.guid wanted.index from.view.elements)) place.3 ∙ ap (held_differ (Some is.held)) from.found) ∙ same) in
       let fields = are_same is.held.element from.held.element (and_parts (same_record is.held.element from.held.element) (same_notes is.held from.held) records).0 in
       is.plan
       ∙ ap (λ (g : List ℕ). plan_of (disks_in views) (find_note g wanted.index (elements_in views)) is.held.element) (sym is.guid)
@@ -217,5 +209,5 @@ pub copies_agreed : (old : DiskCopy) (group : List ℕ) (sequence : ℕ) (leader
 copies_agreed old group sequence leaders timestamp can written agreed k leader leads =
     let views = map view_of leaders in
     let view = view_of (recovered_copy old (before views) (read group sequence views) timestamp) in
-    let is = recovered_agrees old group sequence views timestamp can agreed (all_notes_first leaders written) k (view_of leader) (get_map view_of leaders k leader leads) in
+    let is = recovered_agrees old group sequence views timestamp can agreed (all_notes_first leaders written) k (view_of leader) (mapped_at view_of leaders k leader leads) in
     (no_difference view (view_of leader) is, no_difference (view_of leader) view (agrees_back view (view_of leader) is))

@@ -2,32 +2,21 @@
 use Rattle.std.proofs.Common.{◌≡◌, ℕ, zero, suc, true, false, List, [], ◌∷◌, ◌++◌, map, Option, Some, None, refl, ap, sym, ◌∙◌, subst, arith}
 use Rattle.std.specs.Prelude.{slice_get, filter_map, option_map}
 use Rattle.std.specs.List.{AllByRecursion, IsDistinct, enumerate_from, flat_map, cons_option}
+use Rattle.std.proofs.lemmas.Bool.{cond-false, cond-true}
+use Rattle.ddf_lemmas.proofs.Lists.{first_get, get_filter_map, in_second, mapped_at}
 use Rattle.ddf_config.specs.Configuration.{Configuration}
 use Rattle.ddf_config.specs.ElementValue.{ElementValue as ElementPlan}
 use Rattle.ddf_config.specs.declared.array.Array.{Array}
-use Rattle.ddf_view.proofs.Finds.{when_true, when_false}
 use Rattle.ddf_rewrite.specs.Notes.{Holding, find_holding}
 use Rattle.ddf_rewrite.specs.Placement.{is_item}
 use Rattle.ddf_rewrite.specs.Wanted.{Wanted, all_wanted, wanted_at, wanted_of}
 use Rattle.ddf_rewrite.specs.declared.item.Item.TheVariants as kinds
 use Rattle.ddf_rewrite.specs.declared.item.Item.{Item}
 use Rattle.ddf_rewrite.proofs.Placing.{same_item}
-use Rattle.ddf_rewrite.proofs.Lists.{get_enumerated, enumerated_get, get_map, one_place, some_same}
+use Rattle.ddf_rewrite.proofs.Lists.{get_enumerated, enumerated_get, one_place, some_same}
 use Rattle.ddf_rewrite.specs.Copies.{element_item}
 
 -- ---- lists
-
-pub get_filter_map : {X Y : Type 0} (f : X → Option Y) (xs : List X) (k : ℕ) (x : X) (y : Y) → slice_get xs k ≡ Some x → f x ≡ Some y → (n : ℕ) × (slice_get (filter_map f xs) n ≡ Some y)
-get_filter_map f [] k x y h is = absurd cc
-get_filter_map {Y = Y} f (z ∷ xs) zero x y h is =
-    let same : z ≡ x = cc in
-    let first : f z ≡ Some y = ap f same ∙ is in
-    (0, ap (λ o. slice_get (cons_option o (filter_map f xs)) 0) first)
-get_filter_map {Y = Y} f (z ∷ xs) (suc k) x y h is = go (get_filter_map f xs k x y h is) (f z)
-  where
-    go : (n : ℕ) × (slice_get (filter_map f xs) n ≡ Some y) → (o : Option Y) → (n : ℕ) × (slice_get (cons_option o (filter_map f xs)) n ≡ Some y)
-    go rest None = rest
-    go rest (Some w) = (suc rest.0, rest.1)
 
 pub filter_map_get : {X Y : Type 0} (f : X → Option Y) (xs : List X) (n : ℕ) (y : Y) → slice_get (filter_map f xs) n ≡ Some y → (k : ℕ) × (x : X) × (slice_get xs k ≡ Some x) × (f x ≡ Some y)
 filter_map_get f [] n y h = absurd cc
@@ -39,23 +28,14 @@ filter_map_get {X = X} {Y = Y} f (z ∷ xs) n y h = go (λ m at. filter_map_get 
     go later (Some w) e zero h = (0, z, refl, e ∙ h)
     go later (Some w) e (suc m) h = let rest = later m h in (suc rest.0, rest.1, rest.2, rest.3)
 
-pub get_left : {X : Type 0} (xs ys : List X) (i : ℕ) (x : X) → slice_get xs i ≡ Some x → slice_get (xs ++ ys) i ≡ Some x
-get_left [] ys i x h = absurd cc
-get_left (z ∷ xs) ys zero x h = h
-get_left (z ∷ xs) ys (suc i) x h = get_left xs ys i x h
-
-pub get_right : {X : Type 0} (xs ys : List X) (i : ℕ) (x : X) → slice_get ys i ≡ Some x → (j : ℕ) × (slice_get (xs ++ ys) j ≡ Some x)
-get_right [] ys i x h = (i, h)
-get_right (z ∷ xs) ys i x h = let rest = get_right xs ys i x h in (suc rest.0, rest.1)
-
 get_flat_map : {X Y : Type 0} (f : X → List Y) (xs : List X) (k : ℕ) (x : X) (i : ℕ) (y : Y) → slice_get xs k ≡ Some x → slice_get (f x) i ≡ Some y → (n : ℕ) × (slice_get (flat_map f xs) n ≡ Some y)
 get_flat_map f [] k x i y h is = absurd cc
 get_flat_map {Y = Y} f (z ∷ xs) zero x i y h is =
     let same : z ≡ x = cc in
-    (i, get_left (f z) (flat_map f xs) i y (ap (λ w. slice_get (f w) i) same ∙ is))
+    (i, first_get (f z) (flat_map f xs) i y (ap (λ w. slice_get (f w) i) same ∙ is))
 get_flat_map {Y = Y} f (z ∷ xs) (suc k) x i y h is =
     let rest = get_flat_map f xs k x i y h is in
-    get_right (f z) (flat_map f xs) rest.0 y rest.1
+    in_second (f z) (flat_map f xs) rest.0 y rest.1
 
 pub cases_append : {X : Type 0} (P : Type 0) (xs ys : List X) (x : X) → ((i : ℕ) → slice_get xs i ≡ Some x → P) → ((i : ℕ) → slice_get ys i ≡ Some x → P) → (n : ℕ) → slice_get (xs ++ ys) n ≡ Some x → P
 cases_append P [] ys x left right n h = right n h
@@ -92,8 +72,8 @@ pub wanted_one : (config : Configuration) → IsDistinct is_item (map wanted_ite
     → one.guid ≡ other.guid → one.index ≡ other.index → one ≡ other
 wanted_one config apart n k one other at there guid index =
     let same : wanted_item one ≡ wanted_item other = rw (guid, index) refl in
-    let first : slice_get (map wanted_item (all_wanted config)) n ≡ Some (wanted_item other) = get_map wanted_item (all_wanted config) n one at ∙ ap (λ (x : Item). Some x) same in
-    let place = one_place is_item same_item (map wanted_item (all_wanted config)) apart n k (wanted_item other) first (get_map wanted_item (all_wanted config) k other there) in
+    let first : slice_get (map wanted_item (all_wanted config)) n ≡ Some (wanted_item other) = mapped_at wanted_item (all_wanted config) n one at ∙ ap (λ (x : Item). Some x) same in
+    let place = one_place is_item same_item (map wanted_item (all_wanted config)) apart n k (wanted_item other) first (mapped_at wanted_item (all_wanted config) k other there) in
     some_same at (ap (slice_get (all_wanted config)) place ∙ there)
 
 -- what a wanted element is of
@@ -150,9 +130,9 @@ own_found (x ∷ holdings) differ zero holding h =
     let same : x ≡ holding = cc in
     let test : is_item (kinds.Element x.wanted.guid x.wanted.index) (kinds.Element holding.wanted.guid holding.wanted.index) ≡ true =
     ap (λ (z : Holding). is_item (kinds.Element z.wanted.guid z.wanted.index) (kinds.Element holding.wanted.guid holding.wanted.index)) same ∙ same_item (kinds.Element holding.wanted.guid holding.wanted.index) in
-    when_true (is_item (kinds.Element x.wanted.guid x.wanted.index) (kinds.Element holding.wanted.guid holding.wanted.index)) (Some x) (find_holding holding.wanted.guid holding.wanted.index holdings) test
+    cond-true (is_item (kinds.Element x.wanted.guid x.wanted.index) (kinds.Element holding.wanted.guid holding.wanted.index)) (Some x) (find_holding holding.wanted.guid holding.wanted.index holdings) test
     ∙ ap (λ (z : Holding). Some z) same
 own_found (x ∷ holdings) differ (suc n) holding h =
     let apart = differs_at (kinds.Element x.wanted.guid x.wanted.index) holdings n holding differ.0 h in
-    when_false (is_item (kinds.Element x.wanted.guid x.wanted.index) (kinds.Element holding.wanted.guid holding.wanted.index)) (Some x) (find_holding holding.wanted.guid holding.wanted.index holdings) apart
+    cond-false (is_item (kinds.Element x.wanted.guid x.wanted.index) (kinds.Element holding.wanted.guid holding.wanted.index)) (Some x) (find_holding holding.wanted.guid holding.wanted.index holdings) apart
     ∙ own_found holdings differ.1 n holding h

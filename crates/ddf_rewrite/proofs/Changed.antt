@@ -3,6 +3,7 @@ use Rattle.std.proofs.Common.{◌≡◌, ℕ, ◌≤◌, true, List, length, Som
 use Rattle.std.proofs.lemmas.List.{length-map}
 use Rattle.std.specs.Prelude.{slice_get}
 use Rattle.std.specs.List.{list_all}
+use Rattle.ddf_lemmas.proofs.Lists.{in_map, mapped_at}
 use Rattle.ddf_tables.specs.declared.disks.DiskEntry.{DiskEntry}
 use Rattle.ddf_copy.specs.declared.copy.DiskCopy.{DiskCopy}
 use Rattle.ddf_config.specs.Configuration.{Configuration}
@@ -21,7 +22,6 @@ use Rattle.ddf_rewrite.proofs.Showing.{copy_arrays, copy_disks, copy_shows}
 use Rattle.ddf_rewrite.proofs.Tables.{members_given}
 use Rattle.ddf_rewrite.proofs.Holdings.{record_planned}
 use Rattle.ddf_rewrite.proofs.Given.{HasAll, all_given, all_held, elements_given, elements_held}
-use Rattle.ddf_rewrite.proofs.Lists.{get_map, map_get}
 use Rattle.ddf_rewrite.proofs.Made.{AreApart, Makes, made_apart, made_found, made_none, made_noted}
 
 -- ---- the records
@@ -50,7 +50,7 @@ module _ (old : DiskCopy) (leaders : Before) (config : Configuration) (timestamp
       ≡ Some (record { element = changed_record config timestamp old.header.geometry old.header.revision (own_record old wanted) (leading_record leaders wanted.guid wanted.index) wanted; note = Some (note_of (is_copied_on old.disk_data.reference wanted) wanted.plan) })
   unfolding changed_copy changed_holdings
   record_found n wanted at =
-      made_found old true config timestamp disks (changed_holdings old leaders config timestamp) (changed_apart old leaders config timestamp names) room.records n (changed_holding old leaders config timestamp wanted) (get_map (changed_holding old leaders config timestamp) (all_wanted config) n wanted at)
+      made_found old true config timestamp disks (changed_holdings old leaders config timestamp) (changed_apart old leaders config timestamp names) room.records n (changed_holding old leaders config timestamp wanted) (mapped_at (changed_holding old leaders config timestamp) (all_wanted config) n wanted at)
 
   -- and of no other element there is one
   pub none_found : (guid : List ℕ) (index : ℕ) → ((n : ℕ) (wanted : Wanted) → slice_get (all_wanted config) n ≡ Some wanted → wanted.guid ≡ guid → wanted.index ≡ index → ⊥)
@@ -58,7 +58,7 @@ module _ (old : DiskCopy) (leaders : Before) (config : Configuration) (timestamp
   unfolding changed_copy changed_holdings
   none_found guid index away =
       made_none old true config timestamp disks (changed_holdings old leaders config timestamp) (changed_apart old leaders config timestamp names) room.records guid index (λ n holding at is there.
-      let from = map_get (changed_holding old leaders config timestamp) (all_wanted config) n holding at in
+      let from = in_map (changed_holding old leaders config timestamp) (all_wanted config) n holding at in
       away n from.0 from.1 (ap (λ (h : Holding). h.wanted.guid) from.2 ∙ is) (ap (λ (h : Holding). h.wanted.index) from.2 ∙ there))
 
   -- Of each complete element the copy holds the record with its note, and of no other one.

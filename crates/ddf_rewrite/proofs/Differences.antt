@@ -1,14 +1,16 @@
 -- Views that don't differ.
 use Rattle.std.proofs.Common.{◌≡◌, ℕ, zero, suc, Bool, true, false, not, ◌&&◌, ◌||◌, eqb, List, [], ◌∷◌, ◌++◌, map, Option, Some, None, refl, ap, sym, ◌∙◌, subst, ◌⊎◌, ⊎_elim, inl, inr}
-use Rattle.std.proofs.lemmas.Bool.{and_from, and_parts, eqb-true, eq-eqb, false≢true}
-use Rattle.std.specs.Prelude.{slice_get, filter, find, is_none, option_map}
+use Rattle.std.proofs.lemmas.Bool.{and_from, and_parts, eqb-true, eq-eqb, false≢true, not-false}
+use Rattle.std.specs.Prelude.{slice_get, find, is_none, option_map}
 use Rattle.std.specs.List.{AllByRecursion, enumerate_from}
 use Rattle.std.specs.Option.{option_eq}
 use Rattle.std.specs.Ordering.{nat_cmp}
-use Rattle.std.specs.declared.cmp.Ordering.{Ordering}
 use Rattle.std.specs.Str.{bytes_eq}
 use Rattle.std.specs.Cmp.Lexicographic.{slice_cmp}
-use Rattle.ddf_bytes.proofs.Nones.{none_first, none_map}
+use Rattle.ddf_lemmas.proofs.Lists.{all_fail, bytes_same, filter_none, first_get, found_place, in_second, mapped_at}
+use Rattle.ddf_lemmas.proofs.Options.{none_from_map}
+use Rattle.ddf_lemmas.proofs.Tests.{five_from}
+use Rattle.ddf_bytes.proofs.Nones.{none_first}
 use Rattle.ddf_tables.specs.declared.disks.DiskEntry.{DiskEntry}
 use Rattle.ddf_tables.specs.declared.arrays.ArrayEntry.{ArrayEntry}
 use Rattle.ddf_config_records.specs.declared.notes.SlotNote.{SlotNote}
@@ -19,14 +21,13 @@ use Rattle.ddf_view.specs.Reading.{plan_of}
 use Rattle.ddf_view.specs.Shows.{same_plan}
 use Rattle.ddf_view.specs.View.{HeldRecord, View, find_held, is_element}
 use Rattle.ddf_view.specs.declared.difference.Difference.TheVariants as differences
-use Rattle.ddf_view.proofs.Finds.{when_false, when_true}
 use Rattle.ddf_view.proofs.Shown.{plan_same}
-use Rattle.ddf_view.proofs.Tests.{and_five, bytes_same, same_bytes}
+use Rattle.ddf_view.proofs.Tests.{and_five, same_bytes}
+use Rattle.ddf_view.proofs.Common.{disk_itself, least_none}
 use Rattle.ddf_rewrite.specs.Wanted.{Wanted, all_wanted}
-use Rattle.ddf_rewrite.proofs.AllWanted.{get_left, get_right}
 use Rattle.ddf_rewrite.proofs.Given.{plan_again}
 use Rattle.ddf_rewrite.proofs.Holdings.{are_same, same_again, same_back, same_self}
-use Rattle.ddf_rewrite.proofs.Lists.{all_at, enumerated_get, found_place, get_map}
+use Rattle.ddf_rewrite.proofs.Lists.{all_at, enumerated_get}
 
 -- They have each disk and each array alike, and each element that both hold.
 pub record Agrees (one other : View) : Type 0 where
@@ -35,11 +36,6 @@ pub record Agrees (one other : View) : Type 0 where
   pub elements : (key : List ℕ × ℕ) → element_differs one.elements other.elements key ≡ false
 
 -- ---- to no difference
-
--- where none passes none is left
-filter_none : {X : Type 0} (p : X → Bool) (xs : List X) → ((x : X) → p x ≡ false) → filter p xs ≡ []
-filter_none p [] h = refl
-filter_none p (x ∷ xs) h = when_false (p x) (x ∷ filter p xs) (filter p xs) (h x) ∙ filter_none p xs h
 
 -- Views that agree don't differ.
 pub no_difference : (one other : View) → Agrees one other → difference one other ≡ None
@@ -51,20 +47,6 @@ no_difference one other agrees =
     rw (no_disk, no_array, no_element) refl
 
 -- ---- from no difference
-
--- a list without a least item is empty
-none_least : {X : Type 0} (compare : X → X → Ordering) (items : List X) → least compare items ≡ None → items ≡ []
-none_least compare [] h = refl
-none_least compare (item ∷ items) h = absurd cc
-
--- where none is left none passes
-all_fail : {X : Type 0} (p : X → Bool) (xs : List X) → filter p xs ≡ [] → AllByRecursion (λ x. p x ≡ false) xs
-all_fail p [] h = tt
-all_fail p (x ∷ xs) h = go (all_fail p xs) (p x) refl
-  where
-    go : (filter p xs ≡ [] → AllByRecursion (λ y. p y ≡ false) xs) → (b : Bool) → p x ≡ b → AllByRecursion (λ y. p y ≡ false) (x ∷ xs)
-    go later true e = let got : (x ∷ filter p xs) ≡ [] = sym (when_true (p x) (x ∷ filter p xs) (filter p xs) e) ∙ h in absurd cc
-    go later false e = (e, later (sym (when_false (p x) (x ∷ filter p xs) (filter p xs) e) ∙ h))
 
 -- an item of a name, with its place
 abbrev named_at : {K X : Type 0} → (X → K) → (K → K → Bool) → K → List X → Option (ℕ × X)
@@ -80,17 +62,17 @@ each_alike : {K X : Type 0} (same : ℕ × X → ℕ × X → Bool) (name : X �
 each_alike {K = K} {X = X} same name eq is one other all key = go (named_at name eq key one) refl (named_at name eq key other) refl
   where
     at : (i : ℕ) (x : X) → slice_get (one ++ other) i ≡ Some x → eq (name x) key ≡ true → AlikeAt same name eq one other key
-    at i x there passes = subst (AlikeAt same name eq one other) (is (name x) key passes) (all_at (AlikeAt same name eq one other) (map name (one ++ other)) i (name x) all (get_map name (one ++ other) i x there))
+    at i x there passes = subst (AlikeAt same name eq one other) (is (name x) key passes) (all_at (AlikeAt same name eq one other) (map name (one ++ other)) i (name x) all (mapped_at name (one ++ other) i x there))
 
     go : (o : Option (ℕ × X)) → named_at name eq key one ≡ o → (p : Option (ℕ × X)) → named_at name eq key other ≡ p → AlikeAt same name eq one other key
     go (Some pair) e p f =
         let found = found_place (λ (x : ℕ × X). eq (name x.1) key) (enumerate_from 0 one) pair e in
         let from = enumerated_get 0 one found.0 pair found.1 in
-        at found.0 pair.1 (get_left one other found.0 pair.1 from.1) found.2
+        at found.0 pair.1 (first_get one other found.0 pair.1 from.1) found.2
     go None e (Some pair) f =
         let found = found_place (λ (x : ℕ × X). eq (name x.1) key) (enumerate_from 0 other) pair f in
         let from = enumerated_get 0 other found.0 pair found.1 in
-        let place = get_right one other found.0 pair.1 from.1 in
+        let place = in_second one other found.0 pair.1 from.1 in
         at place.0 pair.1 place.1 found.2
     go None e None f = rw (e, f) refl
 
@@ -109,7 +91,7 @@ each_held one other all key = go (find_held key.0 key.1 one) refl
         let parts = and_parts (bytes_eq held.element.array key.0) (eqb held.element.index key.1) found.2 in
         let array = same_bytes held.element.array key.0 parts.0 in
         let index = eqb-true held.element.index key.1 parts.1 in
-        let alike = all_at (λ (k : List ℕ × ℕ). element_differs one other k ≡ false) (map key_of one) found.0 (key_of held) all (get_map key_of one found.0 held found.1) in
+        let alike = all_at (λ (k : List ℕ × ℕ). element_differs one other k ≡ false) (map key_of one) found.0 (key_of held) all (mapped_at key_of one found.0 held found.1) in
         ap (λ (g : List ℕ). differ_in one other g key.1) (sym array) ∙ ap (λ (i : ℕ). differ_in one other held.element.array i) (sym index) ∙ alike
 
 -- Views that don't differ agree.
@@ -121,9 +103,9 @@ agrees one other none =
     ∷ option_map differences.Array (least (slice_cmp nat_cmp) (differing_arrays one.arrays other.arrays))
     ∷ option_map element_difference (least key_cmp (differing_elements one.elements other.elements))
     ∷ []) none in
-    let disks = none_least nat_cmp (differing_disks one.disks other.disks) (none_map differences.Disk (least nat_cmp (differing_disks one.disks other.disks)) parts.0) in
-    let arrays = none_least (slice_cmp nat_cmp) (differing_arrays one.arrays other.arrays) (none_map differences.Array (least (slice_cmp nat_cmp) (differing_arrays one.arrays other.arrays)) parts.1.0) in
-    let elements = none_least key_cmp (differing_elements one.elements other.elements) (none_map element_difference (least key_cmp (differing_elements one.elements other.elements)) parts.1.1.0) in
+    let disks = least_none nat_cmp (differing_disks one.disks other.disks) (none_from_map differences.Disk (least nat_cmp (differing_disks one.disks other.disks)) parts.0) in
+    let arrays = least_none (slice_cmp nat_cmp) (differing_arrays one.arrays other.arrays) (none_from_map differences.Array (least (slice_cmp nat_cmp) (differing_arrays one.arrays other.arrays)) parts.1.0) in
+    let elements = least_none key_cmp (differing_elements one.elements other.elements) (none_from_map element_difference (least key_cmp (differing_elements one.elements other.elements)) parts.1.1.0) in
     record {
       disks = each_alike same_disk (λ (disk : DiskEntry). disk.reference) eqb eqb-true one.disks other.disks (all_fail (disk_differs one.disks other.disks) (map (λ disk. disk.reference) (one.disks ++ other.disks)) disks);
       arrays = each_alike same_array (λ (row : ArrayEntry). row.guid) bytes_eq same_bytes one.arrays other.arrays (all_fail (array_differs one.arrays other.arrays) (map (λ row. row.guid) (one.arrays ++ other.arrays)) arrays);
@@ -132,17 +114,12 @@ agrees one other none =
 
 -- ---- the other way round
 
--- what isn't false is true
-pub not_false : (b : Bool) → not b ≡ false → b ≡ true
-not_false true h = refl
-not_false false h = absurd (false≢true (sym h))
-
 -- items that are alike are so the other way round
 alike_back : {X : Type 0} (same : X → X → Bool) → ((x y : X) → same x y ≡ true → same y x ≡ true) → (o p : Option X) → not (option_eq same o p) ≡ false → not (option_eq same p o) ≡ false
 alike_back same back None None h = refl
 alike_back same back None (Some y) h = h
 alike_back same back (Some x) None h = h
-alike_back same back (Some x) (Some y) h = ap not (back x y (not_false (same x y) h))
+alike_back same back (Some x) (Some y) h = ap not (back x y (not-false (same x y) h))
 
 -- tests of equality, the other way round
 number_back : (a b : ℕ) → eqb a b ≡ true → eqb b a ≡ true
@@ -150,10 +127,6 @@ number_back a b h = eq-eqb b a (sym (eqb-true a b h))
 
 bytes_back : (a b : List ℕ) → bytes_eq a b ≡ true → bytes_eq b a ≡ true
 bytes_back a b h = ap (λ (x : List ℕ). bytes_eq b x) (same_bytes a b h) ∙ bytes_same b
-
--- five tests that pass
-five_from : (a b c d e : Bool) → a ≡ true → b ≡ true → c ≡ true → d ≡ true → e ≡ true → (a && b && c && d && e) ≡ true
-five_from a b c d e ha hb hc hd he = and_from (a && b && c && d) e (and_from (a && b && c) d (and_from (a && b) c (and_from a b ha hb) hc) hd) he
 
 -- disks that are the same, the other way round
 disk_back : (one other : ℕ × DiskEntry) → same_disk one other ≡ true → same_disk other one ≡ true
@@ -203,7 +176,7 @@ differ_back : (o p : Option HeldRecord) → held_differ o p ≡ false → held_d
 differ_back None None h = refl
 differ_back None (Some other) h = refl
 differ_back (Some one) None h = refl
-differ_back (Some one) (Some other) h = ap not (held_back one other (not_false (same_held one other) h))
+differ_back (Some one) (Some other) h = ap not (held_back one other (not-false (same_held one other) h))
 
 -- a record doesn't differ from itself
 differ_self : (o : Option HeldRecord) → held_differ o o ≡ false
@@ -214,12 +187,6 @@ differ_self (Some one) = ap not (held_self one)
 alike_self : {X : Type 0} (same : X → X → Bool) → ((x : X) → same x x ≡ true) → (o : Option X) → not (option_eq same o o) ≡ false
 alike_self same is None = refl
 alike_self same is (Some x) = ap not (is x)
-
--- a disk is the same as itself
-pub disk_self : (one : ℕ × DiskEntry) → same_disk one one ≡ true
-disk_self one =
-    five_from (eqb one.0 one.0) (bytes_eq one.1.guid one.1.guid) (eqb (told_kind one.1) (told_kind one.1)) (eqb one.1.state.0 one.1.state.0) (eqb one.1.size one.1.size)
-    (eq-eqb one.0 one.0 refl) (bytes_same one.1.guid) (eq-eqb (told_kind one.1) (told_kind one.1) refl) (eq-eqb one.1.state.0 one.1.state.0 refl) (eq-eqb one.1.size one.1.size refl)
 
 -- an array is the same as itself
 array_self : (one : ℕ × ArrayEntry) → same_array one one ≡ true
@@ -240,7 +207,7 @@ agrees_back one other is = record {
 -- A view agrees with itself.
 pub agrees_self : (one : View) → Agrees one one
 agrees_self one = record {
-  disks = λ reference. alike_self same_disk disk_self (named_at (λ (disk : DiskEntry). disk.reference) eqb reference one.disks);
+  disks = λ reference. alike_self same_disk disk_itself (named_at (λ (disk : DiskEntry). disk.reference) eqb reference one.disks);
   arrays = λ guid. alike_self same_array array_self (named_at (λ (row : ArrayEntry). row.guid) bytes_eq guid one.arrays);
   elements = λ key. differ_self (find_held key.0 key.1 one.elements);
 }

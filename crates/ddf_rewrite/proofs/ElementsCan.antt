@@ -1,14 +1,13 @@
 -- The records of elements that a change gives can be written.
-use Rattle.std.proofs.Common.{◌≡◌, ℕ, suc, ◌<◌, ◌≤◌, ◌^◌, Bool, true, false, not, ◌&&◌, ◌||◌, cond, eqb, ltb, leb, List, [], ◌∷◌, length, map, replicate, fold, Option, Some, None, refl, ap, sym, ◌∙◌, subst, arith, inl, inr}
+use Rattle.std.proofs.Common.{◌≡◌, ℕ, suc, ◌<◌, ◌≤◌, ◌^◌, Bool, true, false, not, ◌&&◌, ◌||◌, cond, eqb, ltb, leb, List, [], ◌∷◌, length, map, replicate, fold, Option, Some, None, refl, ap, sym, ◌∙◌, subst, arith}
 use Rattle.std.proofs.lemmas.List.{length-map, length-replicate}
-use Rattle.std.proofs.lemmas.Bool.{ne_eqb, le-ltb}
-use Rattle.std.proofs.lemmas.Bool.Decides.{leb_tells}
+use Rattle.std.proofs.lemmas.Bool.{ne_eqb, le-ltb, lt-leb}
 use Rattle.std.specs.Prelude.{slice_get, filter, nat_eq, nat_lt, is_some}
 use Rattle.std.specs.List.{AllByRecursion, list_any}
 use Rattle.ddf_seal.specs.Unread.{Fits}
 use Rattle.ddf_seal.proofs.Placing.{length-placed}
 use Rattle.ddf_seal.proofs.Records.{written_outside}
-use Rattle.ddf_bytes.proofs.Nones.{none_first}
+use Rattle.ddf_bytes.proofs.Nones.{none_first, none_when}
 use Rattle.ddf_header.specs.declared.geometry.Geometry.{Geometry}
 use Rattle.ddf_header.specs.declared.kind.Revision.{Revision}
 use Rattle.ddf_header.specs.declared.kind.Revision.TheVariants.{R100, R120, R200}
@@ -18,8 +17,9 @@ use Rattle.ddf_config_records.specs.declared.layout.TheConstants.{CACHE_AT}
 use Rattle.ddf_config_records.specs.ElementValue.{ElementValue}
 use Rattle.ddf_config_records.specs.Elements.{record_size, HasRoom, element_fields, has_no_strip, element_faults_of, fault_of, element_fault, CanBeElement}
 use Rattle.ddf_config_records.proofs.Elements.{element_within}
-use Rattle.ddf_config_records.proofs.ElementRecords.{none_unless, HasMembers, has_members, allowed}
+use Rattle.ddf_config_records.proofs.ElementRecords.{HasMembers, has_members, allowed}
 use Rattle.std.specs.Map.{lookup}
+use Rattle.ddf_lemmas.proofs.Tests.{or_three}
 use Rattle.ddf_config_records.proofs.Building.{element_over_can}
 use Rattle.ddf_config_records.specs.Building.{element_bytes, element_unread, new_record_bytes}
 use Rattle.ddf_config.specs.Configuration.{Configuration}
@@ -37,9 +37,6 @@ use Rattle.ddf_rewrite.specs.Hold.{CanHold, FitsArray, FitsMember, FitsPlan, Fit
 use Rattle.ddf_rewrite.specs.Wanted.{Wanted, all_wanted}
 use Rattle.ddf_rewrite.proofs.Lists.{all_at}
 use Rattle.ddf_rewrite.proofs.AllWanted.{wanted_place}
-
-not_le : (a b : ℕ) → b < a → leb a b ≡ false
-not_le a b lt = elim (leb_tells a b) [ inl below ↦ absurd (omega (arith, below.1, lt)) | inr above ↦ above.0 ]
 
 -- ---- associated spares
 
@@ -161,10 +158,10 @@ unfolding fault_of
 allowed_from most element h =
     let none = none_first (element_faults_of most (length element.members) element.strip element.level element.elements element.index element.block_size) h in
     record {
-      members = none_unless (eqb (length element.members) 0 || ltb most (length element.members) || ltb 64 (length element.members)) (faults.Members (length element.members)) none.0;
-      strip = none_unless (nat_lt 31 element.strip && not (has_no_strip element.level element.elements)) (faults.Stripe element.strip) none.1.0;
-      secondary = none_unless (eqb element.elements 0 || ltb 16 element.elements || leb element.elements element.index) (faults.Secondary element.elements) none.1.1.0;
-      block = none_unless (not (list_any (λ n. eqb element.block_size n) (0 ∷ 512 ∷ 0xFFFF ∷ []))) (faults.Block element.block_size) none.1.1.1.0;
+      members = none_when (eqb (length element.members) 0 || ltb most (length element.members) || ltb 64 (length element.members)) (faults.Members (length element.members)) none.0;
+      strip = none_when (nat_lt 31 element.strip && not (has_no_strip element.level element.elements)) (faults.Stripe element.strip) none.1.0;
+      secondary = none_when (eqb element.elements 0 || ltb 16 element.elements || leb element.elements element.index) (faults.Secondary element.elements) none.1.1.0;
+      block = none_when (not (list_any (λ n. eqb element.block_size n) (0 ∷ 512 ∷ 0xFFFF ∷ []))) (faults.Block element.block_size) none.1.1.1.0;
     }
 
 no_fault : (most : ℕ) (element : ElementValue) → IsAllowed most element → element_fault most element ≡ None
@@ -257,23 +254,20 @@ planned_fields most config wanted element is timestamp sequence size block_size 
       starts = starts_small wanted.plan.positions is.plan.positions;
     }
 
-three : (a b c : Bool) → a ≡ false → b ≡ false → c ≡ false → (a || b || c) ≡ false
-three a b c h k l = rw (h, k, l) refl
-
 planned_allowed : (most : ℕ) (config : Configuration) (wanted : Wanted) (element : ElementValue) → IsGiven most config wanted → not (list_any (λ n. eqb element.block_size n) (0 ∷ 512 ∷ 0xFFFF ∷ [])) ≡ false
     → IsAllowed most (planned config wanted element)
 planned_allowed most config wanted element is block =
     let count : length (map place_in wanted.plan.positions) ≡ length wanted.plan.positions = length-map wanted.plan.positions place_in in
     record {
       members = subst (λ (n : ℕ). (eqb n 0 || ltb most n || ltb 64 n) ≡ false) (sym count)
-          (three (eqb (length wanted.plan.positions) 0) (ltb most (length wanted.plan.positions)) (ltb 64 (length wanted.plan.positions))
+          (or_three (eqb (length wanted.plan.positions) 0) (ltb most (length wanted.plan.positions)) (ltb 64 (length wanted.plan.positions))
           (ne_eqb (length wanted.plan.positions) 0 (λ (e : length wanted.plan.positions ≡ 0). absurd (let some = is.plan.some in omega (arith, some, e))))
           (le-ltb most (length wanted.plan.positions) is.plan.allowed) (le-ltb 64 (length wanted.plan.positions) is.plan.few));
       strip = is.plan.has_strip;
-      secondary = three (eqb (length wanted.array.elements) 0) (ltb 16 (length wanted.array.elements)) (leb (length wanted.array.elements) wanted.index)
+      secondary = or_three (eqb (length wanted.array.elements) 0) (ltb 16 (length wanted.array.elements)) (leb (length wanted.array.elements) wanted.index)
           (ne_eqb (length wanted.array.elements) 0 (λ (e : length wanted.array.elements ≡ 0). absurd (let lt = is.index in omega (arith, lt, e))))
           (le-ltb 16 (length wanted.array.elements) is.few)
-          (not_le (length wanted.array.elements) wanted.index is.index);
+          (lt-leb (length wanted.array.elements) wanted.index is.index);
       block = block;
     }
 

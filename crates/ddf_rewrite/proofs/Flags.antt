@@ -4,21 +4,19 @@ use Rattle.std.proofs.lemmas.Nat.{or_lt, and_le_r}
 use Rattle.std.proofs.lemmas.Nat.Bits.{bit_at_and, bit_at_or}
 use Rattle.std.specs.Int.{bit_at}
 use Rattle.std.specs.Int.RustNames.{bit_and}
+use Rattle.ddf_lemmas.proofs.Tests.{max_zero}
 use Rattle.ddf_tables.specs.DiskFlags.{in_array, global_spare, spare, online, rebuilding}
 use Rattle.ddf_config.specs.declared.member.Member.{Member}
 use Rattle.ddf_view.specs.View.{has_bit}
 use Rattle.ddf_rewrite.specs.Wanted.{Wanted}
 use Rattle.ddf_rewrite.specs.Disks.{has_spare_bit, is_global, is_referred, is_behind, with_flag, kind_after, state_after}
 
-max_none : (n : ℕ) → max n 0 ≡ n
-max_none n = omega arith
-
 min_none : (n : ℕ) → min n 0 ≡ 0
 min_none n = omega arith
 
 -- a flag leaves the other bits
 pub flag_other : (test : Bool) (flag bits place : ℕ) → bit_at flag place ≡ 0 → bit_at (with_flag test flag bits) place ≡ bit_at bits place
-flag_other true flag bits place none = bit_at_or bits flag place ∙ ap (max (bit_at bits place)) none ∙ max_none (bit_at bits place)
+flag_other true flag bits place none = bit_at_or bits flag place ∙ ap (max (bit_at bits place)) none ∙ max_zero (bit_at bits place)
 flag_other false flag bits place none = refl
 
 -- a bit that a mask doesn't keep is clear

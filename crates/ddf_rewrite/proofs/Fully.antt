@@ -1,6 +1,6 @@
 -- The copy that a change gives a disk shows the configuration fully.
 use Rattle.std.proofs.Common.{◌≡◌, ℕ, zero, suc, ◌+◌, ◌<◌, Bool, true, false, ◌&&◌, ◌||◌, List, [], ◌∷◌, length, map, Option, Some, None, refl, ap, sym, ◌∙◌, arith, inl}
-use Rattle.std.proofs.lemmas.Bool.{and_from, or_from}
+use Rattle.std.proofs.lemmas.Bool.{and_from, or_from, not-false, or_right}
 use Rattle.std.specs.Prelude.{slice_get, filter, filter_map}
 use Rattle.std.specs.List.{AllByRecursion, list_any, list_all, cons_option, range_with_len}
 use Rattle.std.specs.Str.{bytes_eq}
@@ -8,6 +8,7 @@ use Rattle.ddf_tables.specs.declared.disks.DiskEntry.{DiskEntry}
 use Rattle.ddf_tables.specs.declared.arrays.ArrayEntry.{ArrayEntry}
 use Rattle.ddf_copy.specs.declared.copy.DiskCopy.{DiskCopy}
 use Rattle.std.specs.Cmp.Lexicographic.{pointwise}
+use Rattle.ddf_lemmas.proofs.Lists.{bytes_same, list_all_read, some_at_place}
 use Rattle.ddf_config.specs.Configuration.{Configuration}
 use Rattle.ddf_config.specs.ElementValue.{ElementValue as ElementPlan}
 use Rattle.ddf_config.specs.declared.array.Array.{Array}
@@ -19,8 +20,7 @@ use Rattle.ddf_view.specs.Reading.{dedicated_or_not, elements_in, is_associated,
 use Rattle.ddf_view.specs.Shows.{gives_elements, gives_spare, holds_all, same_spare, shows, shows_fully}
 use Rattle.ddf_view.specs.View.{HeldRecord, View, find_held, has_bit, view_of}
 use Rattle.ddf_view.proofs.Agreement.{Gives, Holds, records_read, dedicated_noted, shown_from, read_together}
-use Rattle.ddf_view.proofs.Finds.{place_there, place_within}
-use Rattle.ddf_view.proofs.Tests.{bytes_same}
+use Rattle.ddf_view.proofs.Finds.{place_within}
 use Rattle.ddf_rewrite.specs.Arrays.{array_on, arrays_after}
 use Rattle.ddf_rewrite.specs.Before.{Before, leading_record}
 use Rattle.ddf_rewrite.specs.Changing.{CanChange, HasRoomFor}
@@ -29,7 +29,6 @@ use Rattle.ddf_rewrite.specs.Disks.{block_size_of, changed_disks, disk_on, disks
 use Rattle.ddf_rewrite.specs.Elements.{contains, has_places, is_spare_for, spares_after}
 use Rattle.ddf_rewrite.specs.Readable.{HasOwnNames, HasSpares}
 use Rattle.ddf_rewrite.specs.Wanted.{Wanted, all_wanted}
-use Rattle.ddf_rewrite.proofs.Differences.{not_false}
 use Rattle.ddf_rewrite.proofs.Given.{not_wanted}
 use Rattle.ddf_rewrite.proofs.Changed.{changed_apart, record_found, none_found, disks_are, arrays_are, changed_shows, changed_noted, changed_holds}
 use Rattle.ddf_rewrite.proofs.Made.{made_has_notes}
@@ -37,7 +36,7 @@ use Rattle.ddf_rewrite.proofs.Filled.{filled_spares}
 use Rattle.ddf_rewrite.proofs.Flags.{kind_global, kind_spare}
 use Rattle.ddf_rewrite.proofs.SpareLists.{spares_tell, base_spares, record_spares}
 use Rattle.ddf_rewrite.proofs.AllWanted.{is_wanted}
-use Rattle.ddf_rewrite.proofs.Lists.{some_same, or_true, all_at, list_all_get, match_made}
+use Rattle.ddf_rewrite.proofs.Lists.{some_same, all_at, match_made}
 
 -- ---- tests over what is found
 
@@ -61,7 +60,7 @@ any_some {X = X} test f n (suc count) (suc i) x lt is passes =
   where
     go : list_any test (filter_map f (range_with_len (n + 1) count)) ≡ true → (o : Option X) → list_any test (cons_option o (filter_map f (range_with_len (n + 1) count))) ≡ true
     go rest None = rest
-    go rest (Some y) = or_true (test y) (list_any test (filter_map f (range_with_len (n + 1) count))) rest
+    go rest (Some y) = or_right (test y) (list_any test (filter_map f (range_with_len (n + 1) count))) rest
 
 -- ---- what the view tells of a spare
 
@@ -70,8 +69,8 @@ associated : (old : DiskCopy) (leaders : Before) (config : Configuration) (times
     → is_associated (elements_in (view_of (changed_copy old leaders config timestamp) ∷ [])) member.0 entry.0 ≡ is_spare_for entry.0 member.1.spare
 associated old leaders config timestamp can a k entry member at there =
     let view = view_of (changed_copy old leaders config timestamp) in
-    let gives : Gives entry view = list_all_get (gives_elements view.elements) config.arrays a entry (shown_from config view (changed_shows old leaders config timestamp can.names can.rebuilt can.room)).elements at in
-    let has : Holds entry view = list_all_get (holds_all view.elements) config.arrays a entry (changed_holds old leaders config timestamp can.names can.room) at in
+    let gives : Gives entry view = list_all_read (gives_elements view.elements) config.arrays a entry (shown_from config view (changed_shows old leaders config timestamp can.names can.rebuilt can.room)).elements at in
+    let has : Holds entry view = list_all_read (holds_all view.elements) config.arrays a entry (changed_holds old leaders config timestamp can.names can.room) at in
     let records = records_read entry view [] (all_at (λ (one : List ℕ × Array). IsReadable one.1) config.arrays a entry can.readable at) gives has tt in
     ap (λ (list : List HeldRecord). list_any (λ held. contains held.element.spares member.0) list) records ∙ go (is_spare_for entry.0 member.1.spare) refl
   where
@@ -79,7 +78,7 @@ associated old leaders config timestamp can a k entry member at there =
     V = view_of (changed_copy old leaders config timestamp)
 
     tells : (i : ℕ) (held : HeldRecord) → i < length entry.1.elements → find_held entry.0 i V.elements ≡ Some held → contains held.element.spares member.0 ≡ is_spare_for entry.0 member.1.spare
-    tells i held lt found = by_plan (place_there entry.1.elements i lt)
+    tells i held lt found = by_plan (some_at_place entry.1.elements i lt)
       where
         by_plan : (plan : Option ElementPlan) × (slice_get entry.1.elements i ≡ Some plan) → contains held.element.spares member.0 ≡ is_spare_for entry.0 member.1.spare
         by_plan (None, is) =
@@ -94,7 +93,7 @@ associated old leaders config timestamp can a k entry member at there =
             let spares : held.element.spares ≡ spares_after config entry.0 (base_spares (leading_record leaders wanted.guid wanted.index)) =
             ap (λ (h : HeldRecord). h.element.spares) same ∙ record_spares config timestamp old.header.geometry old.header.revision (own_record old wanted) (leading_record leaders wanted.guid wanted.index) wanted in
             let places : has_places config entry.0 (base_spares (leading_record leaders wanted.guid wanted.index)) ≡ true =
-            list_all_get (λ one. has_places config one.guid (base_spares (leading_record leaders one.guid one.index))) (all_wanted config) place.0 wanted (not_false (list_all (λ one. has_places config one.guid (base_spares (leading_record leaders one.guid one.index))) (all_wanted config)) can.places) place.1 in
+            list_all_read (λ one. has_places config one.guid (base_spares (leading_record leaders one.guid one.index))) (all_wanted config) place.0 wanted (not-false (list_all (λ one. has_places config one.guid (base_spares (leading_record leaders one.guid one.index))) (all_wanted config)) can.places) place.1 in
             ap (λ (list : List ℕ). contains list member.0) spares ∙ spares_tell config entry.0 (base_spares (leading_record leaders wanted.guid wanted.index)) k member can.spares there places
 
     go : (b : Bool) → is_spare_for entry.0 member.1.spare ≡ b → list_any (λ held. contains held.element.spares member.0) (filter_map (λ i. find_held entry.0 i V.elements) (range_with_len 0 (length entry.1.elements))) ≡ b

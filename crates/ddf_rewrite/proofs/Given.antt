@@ -1,10 +1,11 @@
 -- What a view gives of a configuration by the records that it holds.
-use Rattle.std.proofs.Common.{◌≡◌, ℕ, zero, suc, ◌+◌, ◌≤◌, Bool, true, false, ◌&&◌, eqb, List, [], ◌∷◌, length, Option, Some, None, refl, ap, sym, ◌∙◌, subst, arith, ◌⊎◌, ⊎_elim, inl}
+use Rattle.std.proofs.Common.{◌≡◌, ℕ, zero, suc, ◌+◌, ◌≤◌, Bool, true, ◌&&◌, eqb, List, [], ◌∷◌, length, Option, Some, None, refl, ap, sym, ◌∙◌, subst, arith, ◌⊎◌, ⊎_elim, inl}
 use Rattle.std.proofs.lemmas.Bool.{eq-eqb, false≢true}
 use Rattle.std.specs.Prelude.{slice_get, find, is_some}
 use Rattle.std.specs.Option.{option_map_or}
 use Rattle.std.specs.List.{enumerate_from, list_all}
 use Rattle.std.specs.Cmp.Lexicographic.{pointwise}
+use Rattle.ddf_lemmas.proofs.Lists.{list_all_from}
 use Rattle.ddf_config_records.specs.ElementValue.{ElementValue}
 use Rattle.ddf_config_records.proofs.Ranges.{none_first}
 use Rattle.ddf_config.specs.Configuration.{Configuration}
@@ -12,22 +13,19 @@ use Rattle.ddf_config.specs.ElementValue.{ElementValue as ElementPlan}
 use Rattle.ddf_config.specs.declared.array.Array.{Array}
 use Rattle.ddf_config.specs.declared.element.Position.{Position}
 use Rattle.ddf_view.specs.Reading.{naming_record, plan_of}
-use Rattle.ddf_view.specs.Shows.{gives_element, gives_elements, gives_if_held, gives_numbers, holds, holds_all, least_element, names_numbers, same_flag, same_plan, same_position}
+use Rattle.ddf_view.specs.Shows.{gives_element, gives_elements, gives_if_held, gives_numbers, holds, holds_all, least_element, names_numbers, same_plan, same_position}
 use Rattle.ddf_view.specs.View.{HeldRecord, find_held}
 use Rattle.ddf_view.proofs.Finds.{least_from, place_within}
+use Rattle.ddf_view.proofs.AlikeCopies.{flag_again}
 use Rattle.ddf_rewrite.specs.Notes.{note_of}
 use Rattle.ddf_rewrite.specs.Readable.{AreRebuilt, HasOwnNames}
 use Rattle.ddf_rewrite.specs.Wanted.{Wanted, all_wanted}
-use Rattle.ddf_rewrite.proofs.Lists.{all_from, all_enumerated}
+use Rattle.ddf_rewrite.proofs.Lists.{all_enumerated}
 use Rattle.ddf_rewrite.proofs.Holdings.{IsPlanned, has_plan}
 use Rattle.ddf_rewrite.proofs.Plans.{plan_noted}
 use Rattle.ddf_rewrite.proofs.AllWanted.{is_wanted, wanted_place}
 
 -- ---- tests that a value passes with itself
-
-flag_again : (b : Bool) → same_flag b b ≡ true
-flag_again true = refl
-flag_again false = refl
 
 position_again : (p : Position) → same_position p p ≡ true
 position_again p =
@@ -149,7 +147,7 @@ all_given config elements rebuilt has = record {
     pair_numbers a entry at (place, Some plan) j is there some = ap (λ (n : ℕ). names_numbers elements entry (n, Some plan)) is ∙ numbers a entry at j plan there
 
 pub elements_given : (config : Configuration) (elements : List HeldRecord) → HasOwnNames config → GivesAll config elements → list_all (gives_elements elements) config.arrays ≡ true
-elements_given config elements names gives = all_from (gives_elements elements) config.arrays (λ a entry at.
+elements_given config elements names gives = list_all_from (gives_elements elements) config.arrays (λ a entry at.
     let numbers = given_numbers config elements a entry names gives at in
     let each : list_all (gives_if_held elements entry.0) (enumerate_from 0 entry.1.elements) ≡ true = all_enumerated (gives_if_held elements entry.0) 0 entry.1.elements (λ i plan there.
     let here : 0 + i ≡ i = omega arith in
@@ -157,7 +155,7 @@ elements_given config elements names gives = all_from (gives_elements elements) 
     rw (numbers, each) refl)
 
 pub elements_held : (config : Configuration) (elements : List HeldRecord) → HoldsEach config elements → list_all (holds_all elements) config.arrays ≡ true
-elements_held config elements each = all_from (holds_all elements) config.arrays (λ a entry at.
+elements_held config elements each = list_all_from (holds_all elements) config.arrays (λ a entry at.
     all_enumerated (holds elements entry.0) 0 entry.1.elements (λ i plan there.
     let here : 0 + i ≡ i = omega arith in
     subst (λ (n : ℕ). holds elements entry.0 (n, plan) ≡ true) (sym here) (held_element config elements a i entry plan each at there)))

@@ -7,11 +7,12 @@ use Rattle.ddf_header.specs.declared.kind.Revision.{Revision}
 use Rattle.ddf_config_records.specs.declared.place.Place.{Place}
 use Rattle.ddf_config_records.specs.ElementValue.{ElementValue}
 use Rattle.std.specs.Cmp.Lexicographic.{pointwise}
+use Rattle.ddf_lemmas.proofs.Lists.{bytes_same}
 use Rattle.ddf_config_records.specs.Building.{element_over}
 use Rattle.ddf_config.specs.Configuration.{Configuration}
 use Rattle.ddf_view.specs.Differ.{same_member_place, same_record}
 use Rattle.ddf_view.specs.View.{HeldRecord}
-use Rattle.ddf_view.proofs.Tests.{same_bytes, bytes_same, match_same}
+use Rattle.ddf_view.proofs.Tests.{same_bytes, match_same}
 use Rattle.ddf_rewrite.specs.Elements.{altered, changed_record, created, keeping, place_in, planned}
 use Rattle.ddf_rewrite.specs.Wanted.{Wanted}
 use Rattle.ddf_rewrite.proofs.Plans.{HasPlan}

@@ -4,6 +4,7 @@ use Rattle.std.proofs.lemmas.Bool.{or_parts, eqb-true, eq-eqb, ne_eqb, false≢t
 use Rattle.std.specs.Prelude.{slice_get, filter_map, find, option_map}
 use Rattle.std.specs.Option.{option_map_or}
 use Rattle.std.specs.List.{AllByRecursion, IsDistinct, enumerate_from, list_any, cons_option}
+use Rattle.ddf_lemmas.proofs.Lists.{found_place, in_map, mapped_at}
 use Rattle.ddf_config_records.specs.declared.slot.RecordSlot.{RecordSlot}
 use Rattle.ddf_view.proofs.Finds.{place_within}
 use Rattle.ddf_rewrite.specs.Placement.{free_slots, is_item, is_others, item_at, slotted_items, slot_of, stays_in, take_slots}
@@ -11,7 +12,7 @@ use Rattle.ddf_rewrite.specs.declared.item.Item.TheVariants as kinds
 use Rattle.ddf_rewrite.specs.declared.item.Item.{Item}
 use Rattle.ddf_rewrite.specs.declared.item.Slotted.{Slotted}
 use Rattle.ddf_rewrite.proofs.Placing.{same_item, slots_in, StandIn, Differs, taken, distinct, all_items, slot_found, stands_in, own_slots}
-use Rattle.ddf_rewrite.proofs.Lists.{some_same, get_map, map_get, found_place, one_place}
+use Rattle.ddf_rewrite.proofs.Lists.{some_same, one_place}
 
 -- ---- free slots
 
@@ -47,10 +48,6 @@ not_listed item (one ∷ items) slot stands h =
         let there : eqb place slot ≡ false = sym (ap (λ o. option_map_or (λ (other : ℕ). eqb other slot) o false) at) ∙ apart in
         false_from_ne_true (eqb slot place) (λ yes. false≢true (sym there ∙ eq-eqb place slot (sym (eqb-true slot place yes))))
 
--- ---- lists with an item at a place
-
--- ---- items that differ
-
 -- ---- all of it
 
 -- each item has a slot, where it is found, and no other
@@ -83,20 +80,20 @@ in_place group sequence all items differ enough =
     let within = taken stands (λ slot. slot < length all) items free stand frees in
     record {
       each = λ i item at.
-          let there = map_get (λ one. one.item) placed i item (ap (λ (list : List Item). slice_get list i) same ∙ at) in
+          let there = in_map (λ one. one.item) placed i item (ap (λ (list : List Item). slice_get list i) same ∙ at) in
           let found = slot_found placed apart i there.0 there.1 in
           (there.0.slot, all_at (λ slot. slot < length all) placed within i there.0 there.1, ap (λ o. option_map (λ (one : Slotted). one.item) o) found ∙ ap (λ (x : Item). Some x) there.2);
       among = λ slot item at.
           let there = item_of placed slot item at in
           let place = found_place (λ other. eqb other.slot slot) placed there.0 there.1 in
-          (place.0, ap (λ (list : List Item). slice_get list place.0) (sym same) ∙ get_map (λ one. one.item) placed place.0 there.0 place.1 ∙ ap (λ (x : Item). Some x) there.2);
+          (place.0, ap (λ (list : List Item). slice_get list place.0) (sym same) ∙ mapped_at (λ one. one.item) placed place.0 there.0 place.1 ∙ ap (λ (x : Item). Some x) there.2);
       one = λ slot other item at also.
           let first = item_of placed slot item at in
           let second = item_of placed other item also in
           let here = found_place (λ one. eqb one.slot slot) placed first.0 first.1 in
           let there = found_place (λ one. eqb one.slot other) placed second.0 second.1 in
-          let item_here : slice_get items here.0 ≡ Some item = ap (λ (list : List Item). slice_get list here.0) (sym same) ∙ get_map (λ one. one.item) placed here.0 first.0 here.1 ∙ ap (λ (x : Item). Some x) first.2 in
-          let item_there : slice_get items there.0 ≡ Some item = ap (λ (list : List Item). slice_get list there.0) (sym same) ∙ get_map (λ one. one.item) placed there.0 second.0 there.1 ∙ ap (λ (x : Item). Some x) second.2 in
+          let item_here : slice_get items here.0 ≡ Some item = ap (λ (list : List Item). slice_get list here.0) (sym same) ∙ mapped_at (λ one. one.item) placed here.0 first.0 here.1 ∙ ap (λ (x : Item). Some x) first.2 in
+          let item_there : slice_get items there.0 ≡ Some item = ap (λ (list : List Item). slice_get list there.0) (sym same) ∙ mapped_at (λ one. one.item) placed there.0 second.0 there.1 ∙ ap (λ (x : Item). Some x) second.2 in
           let index : here.0 ≡ there.0 = one_place is_item same_item items differ here.0 there.0 item item_here item_there in
           let ones : first.0 ≡ second.0 = some_same (ap (λ (i : ℕ). slice_get placed i) (sym index) ∙ here.1) there.1 in
           let slot_is = eqb-true first.0.slot slot here.2 in

@@ -3,6 +3,7 @@ use Rattle.std.proofs.Common.{◌≡◌, ℕ, ◌*◌, ◌⊎◌, inl, inr, Bool
 use Rattle.std.proofs.lemmas.Bool.{eqb-true, false≢true}
 use Rattle.std.specs.Prelude.{filter_map}
 use Rattle.std.specs.List.{AllByRecursion}
+use Rattle.ddf_lemmas.proofs.Lists.{all_append}
 use Rattle.ddf_seal.specs.Records.{IsRecord}
 use Rattle.ddf_header.specs.declared.geometry.Geometry.{Geometry}
 use Rattle.ddf_header.specs.Geometry.{IsSound, is_member_maximum, record_sectors}
@@ -17,10 +18,9 @@ use Rattle.ddf_view.specs.Reading.{elements_in}
 use Rattle.ddf_view.specs.View.{HeldRecord, View, disk_of, notes_of, view_of}
 use Rattle.ddf_rewrite.specs.Before.{before}
 use Rattle.ddf_rewrite.specs.Hold.{AreDisks, AreHeld, IsLeader}
-use Rattle.ddf_rewrite.proofs.RowsCan.{own_disks_good, references_of}
+use Rattle.ddf_rewrite.proofs.RowsCan.{own_disks_good}
 use Rattle.ddf_rewrite.proofs.SlotsCan.{elements_can}
-use Rattle.ddf_rewrite.proofs.Lists.{all_append}
-use Rattle.ddf_view.proofs.Names.{names_differ}
+use Rattle.ddf_view.proofs.Names.{names_differ, references}
 
 -- ---- the length of a record
 
@@ -77,7 +77,7 @@ pub leader_disks : (copy : DiskCopy) (views : List View) → CanBeCopy copy → 
 unfolding view_of
 leader_disks copy views is =
     let names = is.disks_can.have_names in
-    let same = references_of copy.disks.rows in
+    let same = references copy.disks.rows in
     record {
       can = own_disks_good copy.disks.rows is.disks_can.rows_good;
       named = from_map (filter_map disk_of copy.disks.rows) (subst (λ (l : List ℕ). AllByRecursion (λ reference. is_no_disk reference ≡ false) l) same names.each_names);

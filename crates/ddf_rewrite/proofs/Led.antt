@@ -4,6 +4,7 @@ use Rattle.std.proofs.lemmas.Bool.{and_parts, false≢true}
 use Rattle.std.specs.Prelude.{filter_map, nat_eq}
 use Rattle.std.specs.Str.{bytes_eq}
 use Rattle.std.specs.List.{AllByRecursion, IsDistinct, cons_option}
+use Rattle.ddf_lemmas.proofs.Lists.{found_place}
 use Rattle.ddf_header.specs.declared.geometry.Geometry.{Geometry}
 use Rattle.ddf_config_records.specs.ElementValue.{ElementValue}
 use Rattle.ddf_copy.specs.declared.copy.DiskCopy.{DiskCopy}
@@ -22,7 +23,6 @@ use Rattle.ddf_rewrite.specs.declared.item.Item.{Item}
 use Rattle.ddf_rewrite.proofs.AllWanted.{filter_map_get, wanted_item}
 use Rattle.ddf_rewrite.proofs.Holdings.{AreSame}
 use Rattle.ddf_rewrite.proofs.Listed.{leading_held}
-use Rattle.ddf_rewrite.proofs.Lists.{found_place}
 use Rattle.ddf_rewrite.proofs.Made.{AreApart}
 use Rattle.ddf_rewrite.proofs.ReadCan.{found_named}
 

@@ -1,29 +1,14 @@
 -- Items of lists by their places, and what holds of each.
-use Rattle.std.proofs.Common.{◌≡◌, ℕ, zero, suc, ◌+◌, ◌<◌, Bool, true, false, ◌||◌, List, [], ◌∷◌, ◌++◌, map, replicate, Option, Some, refl, ap, sym, ◌∙◌, subst, arith}
-use Rattle.std.proofs.lemmas.Bool.{and_parts, false≢true}
-use Rattle.std.specs.Prelude.{slice_get, find}
+use Rattle.std.proofs.Common.{◌≡◌, ℕ, zero, suc, ◌+◌, ◌<◌, Bool, true, false, List, [], ◌∷◌, map, Option, Some, refl, ap, sym, ◌∙◌, subst, arith}
+use Rattle.std.proofs.lemmas.Bool.{false≢true}
+use Rattle.std.specs.Prelude.{slice_get}
 use Rattle.std.specs.List.{AllByRecursion, IsDistinct, enumerate_from, list_all, range_with_len}
 use Rattle.std.specs.Cmp.Lexicographic.{pointwise}
-use Rattle.ddf_view.proofs.Finds.{when_true, when_false}
 
 pub some_same : {X : Type 0} {o : Option X} {x y : X} → o ≡ Some x → o ≡ Some y → x ≡ y
 some_same {x = x} {y = y} h k = let got : Some x ≡ Some y = sym h ∙ k in cc
 
-pub or_true : (a b : Bool) → b ≡ true → (a || b) ≡ true
-or_true true b h = refl
-or_true false b h = h
-
 -- ---- places
-
-pub get_map : {X Y : Type 0} (f : X → Y) (xs : List X) (i : ℕ) (x : X) → slice_get xs i ≡ Some x → slice_get (map f xs) i ≡ Some (f x)
-get_map f [] i x h = absurd cc
-get_map f (y ∷ ys) zero x h = let same : y ≡ x = cc in ap (λ z. Some (f z)) same
-get_map f (y ∷ ys) (suc i) x h = get_map f ys i x h
-
-pub map_get : {X Y : Type 0} (f : X → Y) (xs : List X) (i : ℕ) (y : Y) → slice_get (map f xs) i ≡ Some y → (x : X) × (slice_get xs i ≡ Some x) × (f x ≡ y)
-map_get f [] i y h = absurd cc
-map_get f (x ∷ xs) zero y h = let same : f x ≡ y = cc in (x, refl, same)
-map_get f (x ∷ xs) (suc i) y h = map_get f xs i y h
 
 pub get_enumerated : {X : Type 0} (n : ℕ) (xs : List X) (k : ℕ) (x : X) → slice_get xs k ≡ Some x → (at : ℕ) × (at ≡ n + k) × (slice_get (enumerate_from n xs) k ≡ Some (at, x))
 get_enumerated n [] k x h = absurd cc
@@ -51,18 +36,6 @@ get_range n (suc count) (suc k) lt =
     let rest = get_range (n + 1) count k (omega (arith, lt)) in
     (rest.0, rest.1 ∙ omega arith, rest.2)
 
--- what is found stands somewhere, and passes
-pub found_place : {X : Type 0} (t : X → Bool) (xs : List X) (x : X) → find t xs ≡ Some x → (i : ℕ) × (slice_get xs i ≡ Some x) × (t x ≡ true)
-found_place t [] x h = absurd cc
-found_place {X = X} t (y ∷ ys) x h = go (found_place t ys x) (t y) refl
-  where
-    go : (find t ys ≡ Some x → (i : ℕ) × (slice_get ys i ≡ Some x) × (t x ≡ true)) → (b : Bool) → t y ≡ b → (i : ℕ) × (slice_get (y ∷ ys) i ≡ Some x) × (t x ≡ true)
-    go later true e =
-        let got : Some y ≡ Some x = sym (when_true (t y) (Some y) (find t ys) e) ∙ h in
-        let same : y ≡ x = cc in
-        (0, got, sym (ap t same) ∙ e)
-    go later false e = let rest = later (sym (when_false (t y) (Some y) (find t ys) e) ∙ h) in (suc rest.0, rest.1, rest.2)
-
 -- ---- what holds of each item
 
 pub all_at : {X : Type 0} (P : X → Type 0) (xs : List X) (i : ℕ) (x : X) → AllByRecursion P xs → slice_get xs i ≡ Some x → P x
@@ -70,30 +43,11 @@ all_at P [] i x all h = absurd cc
 all_at P (y ∷ ys) zero x all h = let same : y ≡ x = cc in subst P same all.0
 all_at P (y ∷ ys) (suc i) x all h = all_at P ys i x all.1 h
 
-pub all_by_get : {X : Type 0} (P : X → Type 0) (xs : List X) → ((i : ℕ) (x : X) → slice_get xs i ≡ Some x → P x) → AllByRecursion P xs
-all_by_get P [] h = tt
-all_by_get P (x ∷ xs) h = (h 0 x refl, all_by_get P xs (λ i y at. h (suc i) y at))
-
-pub all_append : {X : Type 0} (P : X → Type 0) (xs ys : List X) → AllByRecursion P xs → AllByRecursion P ys → AllByRecursion P (xs ++ ys)
-all_append P [] ys h k = k
-all_append P (x ∷ xs) ys h k = (h.0, all_append P xs ys h.1 k)
-
-pub all_replicate : {X : Type 0} (P : X → Type 0) (n : ℕ) (x : X) → P x → AllByRecursion P (replicate n x)
-all_replicate P zero x h = tt
-all_replicate P (suc n) x h = (h, all_replicate P n x h)
-
 pub all_mapped : {X Y : Type 0} (P : Y → Type 0) (f : X → Y) (xs : List X) → AllByRecursion (λ x. P (f x)) xs → AllByRecursion P (map f xs)
 all_mapped P f [] h = tt
 all_mapped P f (x ∷ xs) h = (h.0, all_mapped P f xs h.1)
 
 -- ---- tests of each item
-
-pub all_from : {X : Type 0} (p : X → Bool) (xs : List X) → ((i : ℕ) (x : X) → slice_get xs i ≡ Some x → p x ≡ true) → list_all p xs ≡ true
-all_from p [] h = refl
-all_from p (x ∷ xs) h =
-    let first = h 0 x refl in
-    let rest = all_from p xs (λ i y at. h (suc i) y at) in
-    rw (first, rest) refl
 
 pub all_enumerated : {X : Type 0} (p : ℕ × X → Bool) (n : ℕ) (xs : List X) → ((i : ℕ) (x : X) → slice_get xs i ≡ Some x → p (n + i, x) ≡ true) → list_all p (enumerate_from n xs) ≡ true
 all_enumerated p n [] h = refl
@@ -102,11 +56,6 @@ all_enumerated p n (x ∷ xs) h =
     let first : p (n, x) ≡ true = subst (λ (m : ℕ). p (m, x) ≡ true) here (h 0 x refl) in
     let rest = all_enumerated p (n + 1) xs (λ i y at. let there : n + suc i ≡ n + 1 + i = omega arith in subst (λ (m : ℕ). p (m, y) ≡ true) there (h (suc i) y at)) in
     rw (first, rest) refl
-
-pub list_all_get : {X : Type 0} (p : X → Bool) (xs : List X) (a : ℕ) (x : X) → list_all p xs ≡ true → slice_get xs a ≡ Some x → p x ≡ true
-list_all_get p [] a x h at = absurd cc
-list_all_get p (y ∷ ys) zero x h at = let same : y ≡ x = cc in sym (ap p same) ∙ (and_parts (p y) (list_all p ys) h).0
-list_all_get p (y ∷ ys) (suc a) x h at = list_all_get p ys a x (and_parts (p y) (list_all p ys) h).1 at
 
 -- what is made of each item of a list matches it
 pub match_made : {X Y : Type 0} (m : X → Y → Bool) (f : Y → X) (ys : List Y) → ((k : ℕ) (y : Y) → slice_get ys k ≡ Some y → m (f y) y ≡ true) → pointwise m (map f ys) ys ≡ true

@@ -4,6 +4,7 @@ use Rattle.std.proofs.lemmas.List.{length-map}
 use Rattle.std.proofs.lemmas.List.FromFn.{length-enumerate_from, length-map-range_with_len}
 use Rattle.std.specs.Prelude.{slice_get, is_some, option_map}
 use Rattle.std.specs.List.{AllByRecursion, IsDistinct, cons_option, enumerate_from}
+use Rattle.ddf_lemmas.proofs.Lists.{in_map, some_at_place}
 use Rattle.ddf_tables.specs.declared.disks.DiskEntry.{DiskEntry}
 use Rattle.ddf_config_records.specs.ElementValue.{ElementValue}
 use Rattle.ddf_config_records.specs.declared.notes.Notes.{Notes}
@@ -14,7 +15,6 @@ use Rattle.ddf_config.specs.Members.{is_spare}
 use Rattle.ddf_config.specs.declared.member.SpareUse.{SpareUse}
 use Rattle.ddf_view.specs.Readable.{HasNotes}
 use Rattle.ddf_view.specs.View.{HeldRecord, element_of, find_held, held_from, notes_of, view_of}
-use Rattle.ddf_view.proofs.Finds.{place_there}
 use Rattle.ddf_rewrite.specs.declared.item.Item.TheVariants as kinds
 use Rattle.ddf_rewrite.specs.declared.item.Item.{Item}
 use Rattle.ddf_rewrite.specs.declared.item.Slotted.{Slotted}
@@ -24,7 +24,6 @@ use Rattle.ddf_rewrite.specs.Spares.{spare_use}
 use Rattle.ddf_rewrite.specs.Wanted.{Wanted, all_wanted}
 use Rattle.ddf_rewrite.specs.Copies.{copy_after, element_item, items_of, one_if, slotted_on, slots_after, spare_on}
 use Rattle.ddf_rewrite.specs.Readable.{HasOwnNames}
-use Rattle.ddf_rewrite.proofs.Lists.{map_get}
 use Rattle.ddf_rewrite.proofs.InPlace.{AreInPlace, in_place}
 use Rattle.ddf_rewrite.proofs.After.{AreOwn, held_after, none_after, note_if, notes_given, notes_if}
 use Rattle.ddf_rewrite.proofs.Holdings.{IsPlanned}
@@ -85,7 +84,7 @@ index_named (kinds.Element array index) = index
 -- ---- each record has a note
 
 some_at : {X : Type 0} (xs : List X) (n : ℕ) → n < length xs → is_some (slice_get xs n) ≡ true
-some_at xs n lt = let there = place_there xs n lt in ap (λ o. is_some o) there.1
+some_at xs n lt = let there = some_at_place xs n lt in ap (λ o. is_some o) there.1
 
 pub notes_each : (notes : Notes) (n : ℕ) (all : List RecordSlot) → n + length all ≤ length notes.slots → AllByRecursion (λ held. is_some held.note ≡ true) (held_from (Some notes) n all)
 notes_each notes n [] few = tt
@@ -97,7 +96,7 @@ notes_each notes n (slot ∷ all) few =
     go rest noted None = rest
     go rest noted (Some element) = (noted, rest)
 
-slots_long : (old : DiskCopy) (noted : Bool) (config : Configuration) (timestamp : ℕ) (holdings : List Holding) → length (slots_after old noted config timestamp holdings) ≡ length old.slots
+pub slots_long : (old : DiskCopy) (noted : Bool) (config : Configuration) (timestamp : ℕ) (holdings : List Holding) → length (slots_after old noted config timestamp holdings) ≡ length old.slots
 unfolding slots_after
 slots_long old noted config timestamp holdings = length-map (enumerate_from 0 old.slots) _ ∙ length-enumerate_from 0 old.slots
 
@@ -154,7 +153,7 @@ module _ (old : DiskCopy) (noted : Bool) (config : Configuration) (timestamp : �
       ap (λ (elements : List HeldRecord). find_held guid index elements) made_elements
       ∙ none_after old.header.geometry config holdings notes (notes_if noted notes) (spare_on old config timestamp) use_as noted old.slots placed made_in_place own guid index (λ i h.
       let item = item_is noted use_as holdings guid index i h in
-      let from = map_get element_item holdings item.0 (kinds.Element guid index) item.1 in
+      let from = in_map element_item holdings item.0 (kinds.Element guid index) item.1 in
       away item.0 from.0 from.1 (ap array_named from.2) (ap index_named from.2))
 
   -- Where there are notes each record has one.
@@ -182,8 +181,8 @@ same_items make is (x ∷ all) =
 pub made_apart : (config : Configuration) (make : Wanted → Holding) → HasOwnNames config → Makes config make → AreApart (map make (all_wanted config))
 made_apart config make names makes = record {
   differ = subst (λ (items : List Item). IsDistinct is_item items) (sym (same_items make makes.wanted_is (all_wanted config))) names.elements;
-  array_is = λ n holding at. let from = map_get make (all_wanted config) n holding at in
+  array_is = λ n holding at. let from = in_map make (all_wanted config) n holding at in
       subst (λ (h : Holding). h.element.array ≡ h.wanted.guid) from.2 ((makes.planned n from.0 from.1).array ∙ ap (λ (w : Wanted). w.guid) (sym (makes.wanted_is from.0)));
-  index_is = λ n holding at. let from = map_get make (all_wanted config) n holding at in
+  index_is = λ n holding at. let from = in_map make (all_wanted config) n holding at in
       subst (λ (h : Holding). h.element.index ≡ h.wanted.index) from.2 ((makes.planned n from.0 from.1).index ∙ ap (λ (w : Wanted). w.index) (sym (makes.wanted_is from.0)));
 }

@@ -8,15 +8,15 @@ use Rattle.ddf_config.specs.Configuration.{Configuration}
 use Rattle.ddf_config.specs.ElementValue.{ElementValue as ElementPlan}
 use Rattle.ddf_config.specs.declared.array.Array.{Array}
 use Rattle.ddf_config.specs.declared.member.Member.{Member}
-use Rattle.ddf_view.proofs.Tests.{bytes_same}
 use Rattle.ddf_rewrite.specs.Placement.{is_item}
 use Rattle.ddf_rewrite.specs.Readable.{HasOwnNames}
 use Rattle.ddf_rewrite.specs.Wanted.{all_wanted, wanted_at, wanted_of}
 use Rattle.ddf_rewrite.specs.declared.item.Item.TheVariants as kinds
 use Rattle.ddf_rewrite.specs.declared.item.Item.{Item}
-use Rattle.ddf_rewrite.proofs.Lists.{get_map, all_append, one_place}
+use Rattle.ddf_rewrite.proofs.Lists.{one_place}
 use Rattle.ddf_rewrite.proofs.AllWanted.{wanted_item}
 use Rattle.std.proofs.lemmas.List.{map-append}
+use Rattle.ddf_lemmas.proofs.Lists.{all_append, bytes_same, mapped_at}
 
 -- ---- keys that differ
 
@@ -24,8 +24,8 @@ use Rattle.std.proofs.lemmas.List.{map-append}
 pub one_entry : {K X : Type 0} (eq : K → K → Bool) → ((x : K) → eq x x ≡ true) → (entries : List (K × X)) → IsDistinct eq (map (λ entry. entry.0) entries)
     → (i j : ℕ) (one other : K × X) → slice_get entries i ≡ Some one → slice_get entries j ≡ Some other → one.0 ≡ other.0 → one ≡ other
 one_entry {K = K} {X = X} eq same entries apart i j one other h k is =
-    let key = get_map (λ (entry : K × X). entry.0) entries i one h ∙ ap (λ (x : K). Some x) is in
-    let there = one_place eq same (map (λ (entry : K × X). entry.0) entries) apart i j other.0 key (get_map (λ (entry : K × X). entry.0) entries j other k) in
+    let key = mapped_at (λ (entry : K × X). entry.0) entries i one h ∙ ap (λ (x : K). Some x) is in
+    let there = one_place eq same (map (λ (entry : K × X). entry.0) entries) apart i j other.0 key (mapped_at (λ (entry : K × X). entry.0) entries j other k) in
     let got : Some one ≡ Some other = sym h ∙ ap (slice_get entries) there ∙ k in
     cc
 

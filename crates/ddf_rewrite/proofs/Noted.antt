@@ -1,5 +1,5 @@
 -- The notes of records in views of copies that can be written.
-use Rattle.std.proofs.Common.{◌≡◌, ℕ, zero, suc, ◌+◌, Bool, true, false, List, [], ◌∷◌, ◌++◌, length, map, Option, Some, None, refl, ap, sym, ◌∙◌, subst, arith}
+use Rattle.std.proofs.Common.{◌≡◌, ℕ, zero, suc, ◌+◌, Bool, true, false, List, [], ◌∷◌, length, map, Option, Some, None, refl, ap, sym, ◌∙◌, subst, arith}
 use Rattle.std.proofs.lemmas.Bool.{false≢true}
 use Rattle.std.proofs.lemmas.List.Folds.{find-append}
 use Rattle.std.specs.Prelude.{slice_get, is_some, option_map}
@@ -12,7 +12,8 @@ use Rattle.ddf_config_records.specs.declared.slot.RecordSlot.{RecordSlot}
 use Rattle.ddf_copy.specs.declared.copy.DiskCopy.{DiskCopy}
 use Rattle.ddf_copy.specs.Written.{CanBeCopy}
 use Rattle.ddf_view.specs.Reading.{elements_in}
-use Rattle.ddf_view.specs.View.{HeldRecord, View, element_of, find_held, find_note, held_from, is_element, note_of, notes_of, view_of}
+use Rattle.ddf_view.specs.View.{HeldRecord, View, element_of, find_held, find_note, held_from, is_element, notes_of, view_of}
+use Rattle.ddf_view.proofs.Views.{note-append}
 use Rattle.ddf_rewrite.proofs.Made.{notes_each}
 use Rattle.ddf_rewrite.proofs.ReadCan.{copy_notes}
 
@@ -86,15 +87,6 @@ found_in array index (view ∷ views) held h = go (found_in array index views he
     go later None e h = let rest = later (rw e at h) in (suc rest.0, rest.1, rest.2, rest.3)
     go later (Some found) e h = let got : Some found ≡ Some held = rw e at h in (0, view, refl, e ∙ got)
 
--- the first note in two lists
-note_append : (array : List ℕ) (index : ℕ) (xs ys : List HeldRecord) → find_note array index (xs ++ ys) ≡ option_or (find_note array index xs) (find_note array index ys)
-note_append array index [] ys = refl
-note_append array index (held ∷ xs) ys = go (note_of array index held) (note_append array index xs ys)
-  where
-    go : (o : Option SlotNote) → find_note array index (xs ++ ys) ≡ option_or (find_note array index xs) (find_note array index ys) → option_or o (find_note array index (xs ++ ys)) ≡ option_or (option_or o (find_note array index xs)) (find_note array index ys)
-    go None rest = rest
-    go (Some given) rest = refl
-
 -- a record in a view that has a note
 pub record HasNote (array : List ℕ) (index : ℕ) (views : List View) (given : SlotNote) : Type 0 where
   pub m : ℕ
@@ -112,7 +104,7 @@ with_note (Some held) given h = (held, refl, h)
 -- the note that is found among all is that of the record that is found in one
 pub noted_in : (array : List ℕ) (index : ℕ) (views : List View) (given : SlotNote) → AllByRecursion NotesFirst views → find_note array index (elements_in views) ≡ Some given → HasNote array index views given
 noted_in array index [] given all h = absurd cc
-noted_in array index (view ∷ views) given all h = go (noted_in array index views given all.1) (find_note array index view.elements) refl (sym (note_append array index view.elements (elements_in views)) ∙ h)
+noted_in array index (view ∷ views) given all h = go (noted_in array index views given all.1) (find_note array index view.elements) refl (sym (note-append array index view.elements (elements_in views)) ∙ h)
   where
     go : (find_note array index (elements_in views) ≡ Some given → HasNote array index views given) → (o : Option SlotNote) → find_note array index view.elements ≡ o
         → option_or (find_note array index view.elements) (find_note array index (elements_in views)) ≡ Some given → HasNote array index (view ∷ views) given
@@ -130,9 +122,9 @@ some_noted array index (view ∷ views) zero one held given all at found has =
     let same : view ≡ one = cc in
     let here : find_note array index view.elements ≡ Some given =
     all.0 array index ∙ ap (λ (v : View). option_and_then (λ (x : HeldRecord). x.note) (find_held array index v.elements)) same ∙ ap (option_and_then (λ (x : HeldRecord). x.note)) found ∙ has in
-    (given, note_append array index view.elements (elements_in views) ∙ ap (λ o. option_or o (find_note array index (elements_in views))) here)
+    (given, note-append array index view.elements (elements_in views) ∙ ap (λ o. option_or o (find_note array index (elements_in views))) here)
 some_noted array index (view ∷ views) (suc k) one held given all at found has = go (find_note array index view.elements) refl (some_noted array index views k one held given all.1 at found has)
   where
     go : (o : Option SlotNote) → find_note array index view.elements ≡ o → (first : SlotNote) × (find_note array index (elements_in views) ≡ Some first) → (first : SlotNote) × (find_note array index (elements_in (view ∷ views)) ≡ Some first)
-    go (Some here) e later = (here, note_append array index view.elements (elements_in views) ∙ ap (λ o. option_or o (find_note array index (elements_in views))) e)
-    go None e later = (later.0, note_append array index view.elements (elements_in views) ∙ ap (λ o. option_or o (find_note array index (elements_in views))) e ∙ later.1)
+    go (Some here) e later = (here, note-append array index view.elements (elements_in views) ∙ ap (λ o. option_or o (find_note array index (elements_in views))) e)
+    go None e later = (later.0, note-append array index view.elements (elements_in views) ∙ ap (λ o. option_or o (find_note array index (elements_in views))) e ∙ later.1)

@@ -7,6 +7,7 @@ use Rattle.std.specs.Prelude.{filter}
 use Rattle.std.specs.Option.{option_map_or}
 use Rattle.std.specs.List.{AllByRecursion, enumerate_from, range_with_len}
 use Rattle.std.specs.Str.{bytes_eq}
+use Rattle.ddf_lemmas.proofs.Lists.{all_append}
 use Rattle.ddf_seal.specs.Unread.{Fits}
 use Rattle.ddf_header.specs.declared.geometry.Geometry.{Geometry}
 use Rattle.ddf_header.specs.Geometry.{IsSound, record_sectors}
@@ -16,7 +17,6 @@ use Rattle.ddf_config_records.specs.Bits.{is_among, IsRising}
 use Rattle.ddf_config_records.specs.Elements.{record_size}
 use Rattle.ddf_config_records.specs.NoteRecords.{note_size, note_place, note_fields, all_note_fields, head_fields, filling, CanBeNotes}
 use Rattle.ddf_config_records.proofs.Bits.{length-bits_of}
-use Rattle.ddf_config_records.proofs.NoteRecords.{all-append}
 use Rattle.ddf_config_records.proofs.Building.{record_small}
 use Rattle.ddf_config.specs.Configuration.{Configuration}
 use Rattle.ddf_config.specs.ElementValue.{ElementValue as ElementPlan}
@@ -136,7 +136,7 @@ note_fits most at note is = (copied_small note.copied, (omega arith, (is.positio
 
 notes_fit : (most at : ℕ) (notes : List SlotNote) → AllByRecursion (IsNote most) notes → AllByRecursion Fits (all_note_fields most at notes)
 notes_fit most at [] all = tt
-notes_fit most at (note ∷ notes) all = all-append Fits (note_fields most at note) (all_note_fields most (at + note_size most) notes) (note_fits most at note all.0) (notes_fit most (at + note_size most) notes all.1)
+notes_fit most at (note ∷ notes) all = all_append Fits (note_fields most at note) (all_note_fields most (at + note_size most) notes) (note_fits most at note all.0) (notes_fit most (at + note_size most) notes all.1)
 
 rising : (most : ℕ) (notes : List SlotNote) → AllByRecursion (IsNote most) notes → AllByRecursion (λ note. IsRising most note.out) notes
 rising most [] all = tt
@@ -159,6 +159,6 @@ notes_can geometry config holdings placed count sound room group sequence fit =
       counted = counted;
       room = room;
       rising = rising most notes.slots all;
-      fields_fit = all-append Fits (head_fields most notes) (all_note_fields most NOTES_AT notes.slots ++ filling most (record_size geometry) (length notes.slots) ∷ []) head
-          (all-append Fits (all_note_fields most NOTES_AT notes.slots) (filling most (record_size geometry) (length notes.slots) ∷ []) (notes_fit most NOTES_AT notes.slots all) last);
+      fields_fit = all_append Fits (head_fields most notes) (all_note_fields most NOTES_AT notes.slots ++ filling most (record_size geometry) (length notes.slots) ∷ []) head
+          (all_append Fits (all_note_fields most NOTES_AT notes.slots) (filling most (record_size geometry) (length notes.slots) ∷ []) (notes_fit most NOTES_AT notes.slots all) last);
     }

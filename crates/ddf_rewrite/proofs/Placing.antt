@@ -1,23 +1,22 @@
 -- Items get slots of their own.
 use Rattle.std.proofs.Common.{◌≡◌, ℕ, zero, suc, ◌≤◌, Bool, true, false, ◌&&◌, eqb, List, [], ◌∷◌, length, map, Option, Some, None, refl, ap, sym, ◌∙◌, subst, arith, ⊎_elim, inl, inr}
 use Rattle.std.proofs.lemmas.List.Folds.{find_at}
-use Rattle.std.proofs.lemmas.Bool.{ltb-true, and_parts, eqb-true, eq-eqb, false≢true, false_from_ne_true}
+use Rattle.std.proofs.lemmas.Bool.{ltb-true, and_parts, eqb-true, eq-eqb, false≢true, false_from_ne_true, cond-false, cond-true}
 use Rattle.std.specs.Prelude.{slice_get, find, is_some, position, nat_lt, ◌⊎◌}
 use Rattle.std.specs.Option.{option_or, option_map_or}
 use Rattle.std.specs.List.{AllByRecursion, IsDistinct, position_or_len}
 use Rattle.std.specs.Str.{bytes_eq}
+use Rattle.ddf_lemmas.proofs.Lists.{all_weaken, bytes_same, found_place, some_at_place}
 use Rattle.ddf_config_records.specs.declared.slot.RecordSlot.{RecordSlot}
 use Rattle.ddf_config_records.specs.declared.slot.RecordSlot.TheVariants as slots
 use Rattle.ddf_config_records.specs.ElementValue.{ElementValue}
 use Rattle.ddf_config_records.specs.Slots.{valid_of}
 use Rattle.ddf_view.specs.View.{element_of, spare_of}
-use Rattle.ddf_view.proofs.Finds.{when_true, when_false, place_there}
-use Rattle.ddf_view.proofs.Tests.{same_bytes, bytes_same, all_map}
+use Rattle.ddf_view.proofs.Tests.{same_bytes}
 use Rattle.ddf_rewrite.specs.Placement.{is_item, is_notes_slot, is_slot_of, slot_of, take_one, take_slots}
 use Rattle.ddf_rewrite.specs.declared.item.Item.TheVariants as kinds
 use Rattle.ddf_rewrite.specs.declared.item.Item.{Item}
 use Rattle.ddf_rewrite.specs.declared.item.Slotted.{Slotted}
-use Rattle.ddf_rewrite.proofs.Lists.{found_place}
 
 -- ---- items
 
@@ -79,17 +78,17 @@ distinct stands own (item ∷ items) free differ apart away = go (λ rest. disti
         → (o : Option ℕ) → stands item ≡ o → (rest : List ℕ) → IsDistinct eqb rest → AllByRecursion (λ slot. StandIn stands (Differs slot) (item ∷ items)) rest
         → IsDistinct eqb (slots_in (take_one item o (take_slots stands items) rest))
     go later (Some slot) e rest apart away =
-        let others = all_map (λ y. is_item item y ≡ false) (λ y. (k : ℕ) → stands y ≡ Some k → Differs slot k)
+        let others = all_weaken (λ y. is_item item y ≡ false) (λ y. (k : ℕ) → stands y ≡ Some k → Differs slot k)
         (λ y no k at. false_from_ne_true (eqb slot k) (λ yes. let here : stands y ≡ Some slot = at ∙ ap (λ (n : ℕ). Some n) (sym (eqb-true slot k yes)) in false≢true (sym no ∙ own item y slot e here))) items differ.0 in
-        let frees = all_map (λ k. StandIn stands (Differs k) (item ∷ items)) (Differs slot)
+        let frees = all_weaken (λ k. StandIn stands (Differs k) (item ∷ items)) (Differs slot)
         (λ k at. false_from_ne_true (eqb slot k) (λ yes. let here : stands item ≡ Some slot = e in let no = at.0 slot here in false≢true (sym no ∙ eq-eqb k slot (sym (eqb-true slot k yes))))) rest away in (
           taken stands (Differs slot) items rest others frees,
-          later rest apart (all_map (λ k. StandIn stands (Differs k) (item ∷ items)) (λ k. StandIn stands (Differs k) items) (λ k at. at.1) rest away),
+          later rest apart (all_weaken (λ k. StandIn stands (Differs k) (item ∷ items)) (λ k. StandIn stands (Differs k) items) (λ k at. at.1) rest away),
         )
     go later None e [] apart away = later [] tt tt
     go later None e (slot ∷ rest) apart away = (
       taken stands (Differs slot) items rest away.0.1 apart.0,
-      later rest apart.1 (all_map (λ k. StandIn stands (Differs k) (item ∷ items)) (λ k. StandIn stands (Differs k) items) (λ k at. at.1) rest away.1),
+      later rest apart.1 (all_weaken (λ k. StandIn stands (Differs k) (item ∷ items)) (λ k. StandIn stands (Differs k) items) (λ k at. at.1) rest away.1),
     )
 
 -- ---- each item has one
@@ -122,10 +121,10 @@ slot_found [] apart i one at = absurd cc
 slot_found (first ∷ placed) apart zero one at =
     let same : first ≡ one = cc in
     let yes : eqb first.slot one.slot ≡ true = eq-eqb first.slot one.slot (ap (λ (p : Slotted). p.slot) same) in
-    when_true (eqb first.slot one.slot) (Some first) (find (λ other. eqb other.slot one.slot) placed) yes ∙ ap (λ (p : Slotted). Some p) same
+    cond-true (eqb first.slot one.slot) (Some first) (find (λ other. eqb other.slot one.slot) placed) yes ∙ ap (λ (p : Slotted). Some p) same
 slot_found (first ∷ placed) apart (suc i) one at =
     let no = differs placed apart.0 i one at in
-    when_false (eqb first.slot one.slot) (Some first) (find (λ other. eqb other.slot one.slot) placed) no ∙ slot_found placed apart.1 i one at
+    cond-false (eqb first.slot one.slot) (Some first) (find (λ other. eqb other.slot one.slot) placed) no ∙ slot_found placed apart.1 i one at
   where
     differs : (rest : List Slotted) → AllByRecursion (λ k. eqb first.slot k ≡ false) (slots_in rest) → (i : ℕ) (one : Slotted) → slice_get rest i ≡ Some one → eqb first.slot one.slot ≡ false
     differs [] all i one at = absurd cc
@@ -144,13 +143,13 @@ position_is {X = X} t xs i h = go (nat_lt (position_or_len t xs) (length xs)) re
   where
     go : (b : Bool) → nat_lt (position_or_len t xs) (length xs) ≡ b → (x : X) × (slice_get xs i ≡ Some x) × (t x ≡ true)
     go true e =
-        let got : Some (position_or_len t xs) ≡ Some i = sym (when_true (nat_lt (position_or_len t xs) (length xs)) (Some (position_or_len t xs)) None e) ∙ h in
+        let got : Some (position_or_len t xs) ≡ Some i = sym (cond-true (nat_lt (position_or_len t xs) (length xs)) (Some (position_or_len t xs)) None e) ∙ h in
         let same : position_or_len t xs ≡ i = cc in
-        let there = place_there xs (position_or_len t xs) (ltb-true (position_or_len t xs) (length xs) e) in
+        let there = some_at_place xs (position_or_len t xs) (ltb-true (position_or_len t xs) (length xs) e) in
         let found : find t xs ≡ Some there.0 = find_at t xs ∙ there.1 in
         (there.0, sym (ap (λ (n : ℕ). slice_get xs n) same) ∙ there.1, (found_place t xs there.0 found).2)
     go false e =
-        let got : None ≡ Some i = sym (when_false (nat_lt (position_or_len t xs) (length xs)) (Some (position_or_len t xs)) None e) ∙ h in
+        let got : None ≡ Some i = sym (cond-false (nat_lt (position_or_len t xs) (length xs)) (Some (position_or_len t xs)) None e) ∙ h in
         absurd cc
 
 -- ---- in which records
@@ -224,7 +223,7 @@ spare_no_element (slots.Vendor guid rest) h = absurd (false≢true h)
 spare_no_element (slots.Unread fault kept) h = absurd (false≢true h)
 spare_no_element (slots.Unused kept) h = absurd (false≢true h)
 
-no_slot : (array : List ℕ) (index : ℕ) (slot : RecordSlot) → element_of slot ≡ None → is_slot_of array index slot ≡ true → ⊥
+pub no_slot : (array : List ℕ) (index : ℕ) (slot : RecordSlot) → element_of slot ≡ None → is_slot_of array index slot ≡ true → ⊥
 no_slot array index slot none h = false≢true (sym (ap (λ o. option_map_or (λ (element : ElementValue). bytes_eq element.array array && eqb element.index index) o false) none) ∙ h)
 
 one_slot : (x y : Item) (slot : RecordSlot) → is_slot_for x slot ≡ true → is_slot_for y slot ≡ true → is_item x y ≡ true

@@ -1,16 +1,17 @@
 -- The notes of an element and its record give the element back.
 use Rattle.std.proofs.Common.{◌≡◌, ℕ, zero, suc, ◌+◌, ◌<◌, Bool, true, false, not, cond, eqb, List, [], ◌∷◌, map, Option, Some, None, refl, ap, sym, ◌∙◌, arith, ⊎_elim}
-use Rattle.std.proofs.lemmas.Bool.{eqb-true, eq-eqb, ne_eqb, true_from_ne_false, cases_eq}
+use Rattle.std.proofs.lemmas.Bool.{eqb-true, eq-eqb, ne_eqb, true_from_ne_false, cases_eq, cond-false, cond-true}
 use Rattle.std.specs.Prelude.{slice_get, filter, find}
 use Rattle.std.specs.Option.{option_map_or}
 use Rattle.std.specs.List.{enumerate_from}
+use Rattle.std.proofs.Math.Bool.{not-not}
 use Rattle.ddf_config_records.specs.declared.place.Place.{Place}
 use Rattle.ddf_config_records.specs.ElementValue.{ElementValue}
 use Rattle.ddf_config_records.specs.Bits.{is_among}
 use Rattle.ddf_config.specs.ElementValue.{ElementValue as ElementPlan}
 use Rattle.ddf_config.specs.declared.element.Position.{Position}
 use Rattle.ddf_view.specs.Reading.{plan_of, position_of, row_of}
-use Rattle.ddf_view.proofs.Finds.{when_true, when_false}
+use Rattle.ddf_view.proofs.Shown.{make_plan, make_position}
 use Rattle.ddf_rewrite.specs.Elements.{place_in}
 use Rattle.ddf_rewrite.specs.Notes.{note_of, out_of_sync, rebuilt}
 use Rattle.ddf_rewrite.specs.Readable.{OneRebuilt}
@@ -55,10 +56,6 @@ among_places n (y ∷ positions) (suc k) x h = go (among_places (n + 1) position
         let is : is_among (places_from n (y ∷ positions)) (n + 1 + k) ≡ not x.synced = rw (e, apart) rest in
         ap (λ (p : ℕ). is_among (places_from n (y ∷ positions)) p) there ∙ is
 
-not_not : (b : Bool) → not (not b) ≡ b
-not_not true = refl
-not_not false = refl
-
 -- ---- the row of a rebuild
 
 abbrev is_rebuilt : ℕ × Position → Bool
@@ -72,12 +69,12 @@ found_from n (x ∷ positions) pair h = go (found_from (n + 1) positions pair) (
         → (k : ℕ) × (pair.0 ≡ n + k) × (slice_get (x ∷ positions) k ≡ Some pair.1) × (eqb pair.1.row 0 ≡ false)
     go later true e =
         let no_test : is_rebuilt (n, x) ≡ false = ap not e in
-        let rest = later (sym (when_false (is_rebuilt (n, x)) (Some (n, x)) (find is_rebuilt (enumerate_from (n + 1) positions)) no_test) ∙ h) in
+        let rest = later (sym (cond-false (is_rebuilt (n, x)) (Some (n, x)) (find is_rebuilt (enumerate_from (n + 1) positions)) no_test) ∙ h) in
         (suc rest.0, rest.1 ∙ omega arith, rest.2, rest.3)
     go later false e =
         let first : ℕ × Position = (n, x) in
         let test : is_rebuilt first ≡ true = ap not e in
-        let got : Some first ≡ Some pair = sym (when_true (is_rebuilt first) (Some first) (find is_rebuilt (enumerate_from (n + 1) positions)) test) ∙ h in
+        let got : Some first ≡ Some pair = sym (cond-true (is_rebuilt first) (Some first) (find is_rebuilt (enumerate_from (n + 1) positions)) test) ∙ h in
         let same : first ≡ pair = cc in
         let place : pair.0 ≡ n + 0 = sym (ap (λ (q : ℕ × Position). q.0) same) ∙ omega arith in
         (0, place, ap (λ (q : ℕ × Position). Some q.1) same, sym (ap (λ (q : ℕ × Position). eqb q.1.row 0) same) ∙ e)
@@ -90,11 +87,11 @@ none_rebuilt n (y ∷ positions) h k x at = go (none_rebuilt (n + 1) positions) 
     go later true e zero at = let same : y ≡ x = cc in sym (ap (λ (p : Position). p.row) same) ∙ eqb-true y.row 0 e
     go later true e (suc k) at =
         let no_test : is_rebuilt (n, y) ≡ false = ap not e in
-        later (sym (when_false (is_rebuilt (n, y)) (Some (n, y)) (find is_rebuilt (enumerate_from (n + 1) positions)) no_test) ∙ h) k x at
+        later (sym (cond-false (is_rebuilt (n, y)) (Some (n, y)) (find is_rebuilt (enumerate_from (n + 1) positions)) no_test) ∙ h) k x at
     go later false e k at =
         let first : ℕ × Position = (n, y) in
         let test : is_rebuilt first ≡ true = ap not e in
-        let got : Some first ≡ None = sym (when_true (is_rebuilt first) (Some first) (find is_rebuilt (enumerate_from (n + 1) positions)) test) ∙ h in
+        let got : Some first ≡ None = sym (cond-true (is_rebuilt first) (Some first) (find is_rebuilt (enumerate_from (n + 1) positions)) test) ∙ h in
         absurd cc
 
 both_same : (b : Bool) (n : ℕ) → cond b n n ≡ n
@@ -116,22 +113,19 @@ row_noted copied plan one k x at = go (rebuilt plan) refl
         let here : there.0 ≡ k = sym place ∙ same in
         let got : Some pair.1 ≡ Some x = sym there.2 ∙ ap (λ (i : ℕ). slice_get plan.positions i) here ∙ at in
         let is : pair.1 ≡ x = cc in
-        when_true (eqb pair.0 k) pair.1.row 0 (eq-eqb pair.0 k same) ∙ ap (λ (p : Position). p.row) is)
+        cond-true (eqb pair.0 k) pair.1.row 0 (eq-eqb pair.0 k same) ∙ ap (λ (p : Position). p.row) is)
         (λ (apart : pair.0 ≡ k → ⊥).
         let zero_row : x.row ≡ 0 = eqb-true x.row 0 (true_from_ne_false (eqb x.row 0) (λ rebuilt_too. apart (place ∙ one there.0 k pair.1 x there.2 at there.3 rebuilt_too))) in
-        when_false (eqb pair.0 k) pair.1.row 0 (ne_eqb pair.0 k apart) ∙ sym zero_row)
+        cond-false (eqb pair.0 k) pair.1.row 0 (ne_eqb pair.0 k apart) ∙ sym zero_row)
         (cases_eq pair.0 k))
 
 -- ---- the element
-
-make_position : (reference start : ℕ) (synced : Bool) (row : ℕ) → Position
-make_position reference start synced row = record { reference = reference; start = start; synced = synced; row = row }
 
 position_noted : (copied : Bool) (plan : ElementPlan) → OneRebuilt plan → (k : ℕ) (x : Position) → slice_get plan.positions k ≡ Some x → position_of [] (Some (note_of copied plan)) k (place_in x) ≡ x
 unfolding make_position
 position_noted copied plan one k x at =
     let here : 0 + k ≡ k = omega arith in
-    let synced : not (is_among (out_of_sync plan) k) ≡ x.synced = ap (λ (i : ℕ). not (is_among (out_of_sync plan) i)) (sym here) ∙ ap not (among_places 0 plan.positions k x at) ∙ not_not x.synced in
+    let synced : not (is_among (out_of_sync plan) k) ≡ x.synced = ap (λ (i : ℕ). not (is_among (out_of_sync plan) i)) (sym here) ∙ ap not (among_places 0 plan.positions k x at) ∙ not-not x.synced in
     let row = row_noted copied plan one k x at in
     let made : make_position x.reference x.start (not (is_among (out_of_sync plan) k)) (row_of (Some (note_of copied plan)) k) ≡ make_position x.reference x.start x.synced x.row =
     ap (λ (s : Bool). make_position x.reference x.start s (row_of (Some (note_of copied plan)) k)) synced ∙ ap (λ (r : ℕ). make_position x.reference x.start x.synced r) row in
@@ -153,10 +147,6 @@ pub record HasPlan (element : ElementValue) (plan : ElementPlan) : Type 0 where
   pub strip : element.strip ≡ plan.strip
   pub blocks : element.blocks ≡ plan.blocks
   pub members : element.members ≡ map place_in plan.positions
-
-make_plan : (level qualifier strip blocks stand_in : ℕ) → List Position → ElementPlan
-make_plan level qualifier strip blocks stand_in positions =
-    record { level = level; qualifier = qualifier; strip = strip; blocks = blocks; stand_in = stand_in; positions = positions }
 
 pub plan_noted : (copied : Bool) (plan : ElementPlan) (element : ElementValue) → OneRebuilt plan → HasPlan element plan → plan_of [] (Some (note_of copied plan)) element ≡ plan
 unfolding plan_of make_plan

@@ -7,14 +7,14 @@ use Rattle.ddf_header.specs.declared.geometry.Geometry.{Geometry}
 use Rattle.ddf_header.specs.Geometry.{IsSound}
 use Rattle.ddf_header.proofs.Sound.{sound}
 use Rattle.ddf_config_records.specs.declared.spare.SpareRecord.{SpareRecord}
-use Rattle.ddf_config_records.specs.Elements.{CanBeElement, HasRoom}
+use Rattle.ddf_config_records.specs.Elements.{CanBeElement}
 use Rattle.ddf_config_records.specs.Building.{spare_entries}
 use Rattle.ddf_config_records.specs.Spares.{CanBeSpare}
 use Rattle.ddf_config_records.proofs.SpareRecords.{count_fits}
-use Rattle.ddf_config_records.proofs.Sound.{room_from_sound}
 use Rattle.ddf_config.specs.Configuration.{Configuration}
 use Rattle.ddf_copy.specs.declared.copy.DiskCopy.{DiskCopy}
 use Rattle.ddf_copy.specs.Written.{CanBeCopy}
+use Rattle.ddf_copy.proofs.Levels.{room_of}
 use Rattle.ddf_view.specs.View.{HeldRecord, find_held, first_spare, is_element, notes_of, view_of}
 use Rattle.ddf_view.proofs.Finds.{find_has}
 use Rattle.ddf_rewrite.specs.Before.{Before, leading_record}
@@ -30,9 +30,6 @@ use Rattle.ddf_rewrite.proofs.SparesCan.{CanBeOwn}
 
 pub is_sound : (old : DiskCopy) → CanBeCopy old → IsSound old.header.geometry
 is_sound old is = sound old.header.geometry is.header_can.is_header.has_geometry
-
-pub has_room : (old : DiskCopy) → CanBeCopy old → HasRoom old.header.geometry
-has_room old is = room_from_sound old.header.geometry (is_sound old is)
 
 -- a disk's own record
 pub own_can : (old : DiskCopy) (array : List ℕ) (index : ℕ) (held : HeldRecord) → CanBeCopy old → find_held array index (view_of old).elements ≡ Some held → CanBeElement old.header.geometry held.element
@@ -74,7 +71,7 @@ can_hold_spare old config is fit = record {
   sound = is_sound old is;
   size = λ spare at. (own spare at).size;
   before = λ spare at.
-      let whole = (has_room old is).whole in
+      let whole = (room_of old is).whole in
       let size = (own spare at).size in
       let counted = (own spare at).counted in
       let fits = count_fits spare.rest (omega (arith, whole, size)) in

@@ -1,5 +1,5 @@
 -- A configuration that is read from copies that can be written is one that copies can hold.
-use Rattle.std.proofs.Common.{◌≡◌, ℕ, zero, suc, ◌+◌, ◌<◌, ◌^◌, inl, inr, Bool, true, false, not, ◌&&◌, ◌||◌, cond, eqb, ltb, leb, List, [], ◌∷◌, ◌++◌, length, map, Option, Some, None, refl, ap, sym, ◌∙◌, subst, arith}
+use Rattle.std.proofs.Common.{◌≡◌, ℕ, suc, ◌+◌, ◌<◌, ◌^◌, inl, inr, Bool, true, false, not, ◌&&◌, ◌||◌, cond, eqb, ltb, leb, List, [], ◌∷◌, ◌++◌, length, map, Option, Some, None, refl, ap, sym, ◌∙◌, subst, arith}
 use Rattle.std.proofs.lemmas.Bool.{eqb-true, ne_eqb, and_parts, cases_eq, false≢true, leb-false}
 use Rattle.std.proofs.lemmas.List.{length-map}
 use Rattle.std.proofs.lemmas.List.FromFn.{length-enumerate_from, length-map-range_with_len}
@@ -7,6 +7,7 @@ use Rattle.std.specs.Prelude.{slice_get, option_map, nat_lt, nat_eq}
 use Rattle.std.specs.Option.{option_map_or, option_or}
 use Rattle.std.specs.List.{AllByRecursion, IsDistinct, enumerate_from, range_with_len, cons_option}
 use Rattle.std.specs.Str.{bytes_eq}
+use Rattle.ddf_lemmas.proofs.Lists.{all_append, found_place, in_map, range_get}
 use Rattle.ddf_seal.specs.Unread.{Fits}
 use Rattle.ddf_header.specs.declared.geometry.Geometry.{Geometry}
 use Rattle.ddf_header.specs.Geometry.{IsSound}
@@ -36,7 +37,7 @@ use Rattle.ddf_rewrite.specs.Wanted.{Wanted, all_wanted}
 use Rattle.ddf_rewrite.proofs.ElementsCan.{IsFit, fit_from, few_members}
 use Rattle.ddf_rewrite.proofs.RowsCan.{IsDiskEntry, IsArrayEntry, own_arrays_good}
 use Rattle.ddf_rewrite.proofs.Leaders.{leaders_held, leader_disks}
-use Rattle.ddf_rewrite.proofs.Lists.{map_get, found_place, all_at, all_append}
+use Rattle.ddf_rewrite.proofs.Lists.{all_at}
 use Rattle.ddf_rewrite.proofs.AllWanted.{wanted_place}
 use Rattle.ddf_view.proofs.Names.{names_differ}
 
@@ -161,11 +162,6 @@ positions_fit disks noted n (member ∷ members) fits references starts =
     (record { reference = references.0; start = starts.0; row = row_fits noted n fits }, positions_fit disks noted (n + 1) members fits references.1 starts.1)
 
 -- ---- how many elements
-
-pub range_get : (from count k j : ℕ) → slice_get (range_with_len from count) k ≡ Some j → (j ≡ from + k) × (k < count)
-range_get from zero k j h = absurd cc
-range_get from (suc count) zero j h = let same : from ≡ j = cc in (sym same ∙ omega arith, omega arith)
-range_get from (suc count) (suc k) j h = let rest = range_get (from + 1) count k j h in (rest.0 ∙ omega arith, omega (arith, rest.1))
 
 -- what is found has its name
 pub found_named : (array : List ℕ) (index : ℕ) (elements : List HeldRecord) (held : HeldRecord) → find_held array index elements ≡ Some held → held.element.index ≡ index
@@ -309,11 +305,11 @@ is_read group sequence views n wanted at =
     let elements = elements_in views in
     let disks = disks_in views in
     let of = wanted_place (read group sequence views) n wanted at in
-    let from = map_get (λ (entry : ArrayEntry). (entry.guid, array_in disks elements entry)) (arrays_in views) of.a of.entry of.at in
+    let from = in_map (λ (entry : ArrayEntry). (entry.guid, array_in disks elements entry)) (arrays_in views) of.a of.entry of.at in
     let entry = from.0 in
     let array_is : wanted.array ≡ array_in disks elements entry = of.array_is ∙ ap (λ (pair : List ℕ × Array). pair.1) (sym from.2) in
     let there : slice_get (array_in disks elements entry).elements wanted.index ≡ Some (Some wanted.plan) = ap (λ (pair : List ℕ × Array). slice_get pair.1.elements wanted.index) from.2 ∙ of.there in
-    let placed = map_get (element_in disks elements entry.guid) (range_with_len 0 (count_in elements entry.guid)) wanted.index (Some wanted.plan) there in
+    let placed = in_map (element_in disks elements entry.guid) (range_with_len 0 (count_in elements entry.guid)) wanted.index (Some wanted.plan) there in
     let ranged = range_get 0 (count_in elements entry.guid) wanted.index placed.0 placed.1 in
     let here : placed.0 ≡ wanted.index = ranged.0 ∙ omega arith in
     let given : element_in disks elements entry.guid wanted.index ≡ Some wanted.plan = ap (element_in disks elements entry.guid) (sym here) ∙ placed.2 in

@@ -1,11 +1,12 @@
 -- What a configuration has that is read from copies that can be written.
-use Rattle.std.proofs.Common.{◌≡◌, ℕ, zero, suc, ◌<◌, ◌≤◌, Bool, true, false, not, ◌&&◌, ◌||◌, cond, eqb, ltb, leb, List, [], ◌∷◌, map, Option, Some, None, refl, ap, sym, ◌∙◌, subst, arith}
+use Rattle.std.proofs.Common.{◌≡◌, ℕ, suc, ◌<◌, ◌≤◌, Bool, true, false, not, ◌&&◌, ◌||◌, cond, eqb, ltb, leb, List, [], ◌∷◌, map, Option, Some, None, refl, ap, sym, ◌∙◌, subst, arith}
 use Rattle.std.proofs.lemmas.Bool.{eqb-true, and_parts, false≢true, false_from_ne_true, ltb-false}
 use Rattle.std.proofs.lemmas.List.FromFn.{length-map-range_with_len}
-use Rattle.std.specs.Prelude.{slice_get, filter, filter_map, option_map, nat_eq, is_some}
+use Rattle.std.specs.Prelude.{slice_get, filter, option_map, nat_eq, is_some}
 use Rattle.std.specs.Option.{option_map_or, option_or}
-use Rattle.std.specs.List.{AllByRecursion, IsDistinct, enumerate_from, range_with_len, list_any, cons_option}
+use Rattle.std.specs.List.{AllByRecursion, IsDistinct, enumerate_from, range_with_len, list_any}
 use Rattle.std.specs.Str.{bytes_eq}
+use Rattle.ddf_lemmas.proofs.Lists.{any_place, bytes_same, in_map, kept_passes, mapped_at, range_get}
 use Rattle.ddf_bytes.specs.Choices.{first_of}
 use Rattle.ddf_tables.specs.declared.disks.DiskEntry.{DiskEntry}
 use Rattle.ddf_tables.specs.declared.arrays.ArrayEntry.{ArrayEntry}
@@ -23,15 +24,16 @@ use Rattle.ddf_view.specs.Reading.{are_noted, array_in, arrays_in, count_in, ded
 use Rattle.ddf_view.specs.Shows.{least_element}
 use Rattle.ddf_view.specs.View.{HeldRecord, View, find_held, find_note, has_bit, is_element}
 use Rattle.ddf_view.proofs.Finds.{find_has, filter_same}
-use Rattle.ddf_view.proofs.Tests.{same_bytes, bytes_same}
+use Rattle.ddf_view.proofs.Tests.{same_bytes}
 use Rattle.ddf_rewrite.specs.Elements.{is_spare_for, no_reference}
 use Rattle.ddf_rewrite.specs.Hold.{AreDisks}
 use Rattle.ddf_rewrite.specs.Readable.{AreRebuilt, HasSpares, OneRebuilt}
 use Rattle.ddf_rewrite.proofs.Given.{no_element}
 use Rattle.ddf_rewrite.proofs.ElementsCan.{IsFit}
 use Rattle.ddf_rewrite.proofs.NamesCan.{own_references}
-use Rattle.ddf_rewrite.proofs.ReadCan.{is_read, range_get, found_named, index_below, same_names}
-use Rattle.ddf_rewrite.proofs.Lists.{get_map, map_get, enumerated_get, get_range, all_at}
+use Rattle.ddf_rewrite.proofs.ReadCan.{is_read, found_named, index_below, same_names}
+use Rattle.ddf_rewrite.proofs.Lists.{enumerated_get, get_range, all_at}
+use Rattle.ddf_rewrite.proofs.AllWanted.{filter_map_get}
 
 -- ---- at most one position is rebuilt
 
@@ -50,8 +52,8 @@ one_rebuilt : (disks : List DiskEntry) (note : Option SlotNote) (element : Eleme
 unfolding plan_of
 one_rebuilt disks note element i j one other at also h k =
     let make = λ (pair : ℕ × Place). position_of disks note pair.0 pair.1 in
-    let first = map_get make (enumerate_from 0 element.members) i one at in
-    let second = map_get make (enumerate_from 0 element.members) j other also in
+    let first = in_map make (enumerate_from 0 element.members) i one at in
+    let second = in_map make (enumerate_from 0 element.members) j other also in
     let here : first.0.0 ≡ i = (enumerated_get 0 element.members i first.0 first.1).0 ∙ omega arith in
     let there : second.0.0 ≡ j = (enumerated_get 0 element.members j second.0 second.1).0 ∙ omega arith in
     let one_row : eqb (row_of note first.0.0) 0 ≡ false = ap (λ (p : Position). eqb p.row 0) first.2 ∙ h in
@@ -94,7 +96,7 @@ element_there disks elements array index held at lt =
     let here : place.0 ≡ index = place.1 ∙ omega arith in
     let is : element_in disks elements array index ≡ Some (plan_of disks (find_note array index elements) held.element) = ap (λ o. option_map (λ (one : HeldRecord). plan_of disks (find_note array index elements) one.element) o) at in (
       plan_of disks (find_note array index elements) held.element,
-      get_map (element_in disks elements array) (range_with_len 0 (count_in elements array)) index place.0 place.2 ∙ ap (λ (n : ℕ). Some (element_in disks elements array n)) here ∙ ap (λ (o : Option ElementPlan). Some o) is,
+      mapped_at (element_in disks elements array) (range_with_len 0 (count_in elements array)) index place.0 place.2 ∙ ap (λ (n : ℕ). Some (element_in disks elements array n)) here ∙ ap (λ (o : Option ElementPlan). Some o) is,
     )
 
 -- the naming record's element is there
@@ -219,33 +221,6 @@ spare_is views disk arrays h = go (has_bit disk.kind.0 2) (has_bit disk.kind.0 3
     go true false h = absurd cc
     go false third h = dedicated_are (map (λ (entry : ArrayEntry). entry.guid) (filter (is_dedicated views disk.reference) (arrays_in views))) arrays h
 
-any_some : {X : Type 0} (t : X → Bool) (xs : List X) → list_any t xs ≡ true → (i : ℕ) × (x : X) × (slice_get xs i ≡ Some x) × (t x ≡ true)
-any_some t [] h = absurd (false≢true h)
-any_some {X = X} t (x ∷ xs) h = go (any_some t xs) (t x) refl h
-  where
-    go : (list_any t xs ≡ true → (i : ℕ) × (y : X) × (slice_get xs i ≡ Some y) × (t y ≡ true)) → (b : Bool) → t x ≡ b → (b || list_any t xs) ≡ true → (i : ℕ) × (y : X) × (slice_get (x ∷ xs) i ≡ Some y) × (t y ≡ true)
-    go later true e h = (0, x, refl, e)
-    go later false e h = let rest = later h in (suc rest.0, rest.1, rest.2, rest.3)
-
-filtered : {X : Type 0} (p : X → Bool) (xs : List X) (i : ℕ) (x : X) → slice_get (filter p xs) i ≡ Some x → p x ≡ true
-filtered p [] i x h = absurd cc
-filtered {X = X} p (y ∷ ys) i x h = go (λ j. filtered p ys j x) (p y) refl i h
-  where
-    go : ((j : ℕ) → slice_get (filter p ys) j ≡ Some x → p x ≡ true) → (b : Bool) → p y ≡ b → (i : ℕ) → slice_get (cond b (y ∷ filter p ys) (filter p ys)) i ≡ Some x → p x ≡ true
-    go later true e zero h = let same : y ≡ x = cc in ap p (sym same) ∙ e
-    go later true e (suc i) h = later i h
-    go later false e i h = later i h
-
-held_some : {X Y : Type 0} (f : X → Option Y) (xs : List X) (i : ℕ) (y : Y) → slice_get (filter_map f xs) i ≡ Some y → (k : ℕ) × (x : X) × (slice_get xs k ≡ Some x) × (f x ≡ Some y)
-held_some f [] i y h = absurd cc
-held_some {X = X} {Y = Y} f (x ∷ xs) i y h = go (λ j. held_some f xs j y) (f x) refl i h
-  where
-    go : ((j : ℕ) → slice_get (filter_map f xs) j ≡ Some y → (k : ℕ) × (z : X) × (slice_get xs k ≡ Some z) × (f z ≡ Some y)) → (o : Option Y) → f x ≡ o → (i : ℕ) → slice_get (cons_option o (filter_map f xs)) i ≡ Some y
-        → (k : ℕ) × (z : X) × (slice_get (x ∷ xs) k ≡ Some z) × (f z ≡ Some y)
-    go later None e i h = let rest = later i h in (suc rest.0, rest.1, rest.2, rest.3)
-    go later (Some z) e zero h = (0, x, refl, e ∙ h)
-    go later (Some z) e (suc i) h = let rest = later i h in (suc rest.0, rest.1, rest.2, rest.3)
-
 -- an array with a dedicated spare has an element that is there
 dedicated_there : (most : ℕ) (disks : List DiskEntry) (views : List View) (reference : ℕ) (entry : ArrayEntry) → AllFit most (elements_in views) → is_dedicated views reference entry ≡ true
     → (e : ℕ) × (plan : ElementPlan) × (slice_get (map (element_in disks (elements_in views) entry.guid) (range_with_len 0 (count_in (elements_in views) entry.guid))) e ≡ Some (Some plan))
@@ -261,8 +236,8 @@ dedicated_there most disks views reference entry all h = go (is_associated (elem
     go : (b : Bool) → is_associated (elements_in views) reference entry.guid ≡ b
         → (b || (not (are_noted views) && is_some (naming_record (elements_in views) entry.guid) && list_any (names_array reference entry.guid) views)) ≡ true → There
     go true e h =
-        let some = any_some (λ held. list_any (λ spare. eqb spare reference) held.element.spares) (records_of (elements_in views) entry.guid) e in
-        let from = held_some (λ index. find_held entry.guid index (elements_in views)) (range_with_len 0 (count_in (elements_in views) entry.guid)) some.0 some.1 some.2 in
+        let some = any_place (λ held. list_any (λ spare. eqb spare reference) held.element.spares) (records_of (elements_in views) entry.guid) e in
+        let from = filter_map_get (λ index. find_held entry.guid index (elements_in views)) (range_with_len 0 (count_in (elements_in views) entry.guid)) some.0 some.1 some.2 in
         let place = range_get 0 (count_in (elements_in views) entry.guid) from.0 from.1 from.2 in
         let there = element_there disks (elements_in views) entry.guid from.1 some.1 from.3 (omega (arith, place.0, place.1)) in
         (from.1, there.0, there.1)
@@ -304,10 +279,10 @@ read_spares most group sequence views all are apart =
     record {
       apart = own_references (read group sequence views) (subst (λ (l : List ℕ). IsDistinct nat_eq l) (sym (same_names member (λ (disk : DiskEntry). disk.reference) (λ disk. refl) disks)) are.apart);
       named = λ i one at.
-          let from = map_get member disks i one at in
+          let from = in_map member disks i one at in
           subst (λ (entry : ℕ × Member). eqb entry.0 no_reference ≡ false) from.2 (all_at (λ disk. eqb disk.reference no_reference ≡ false) disks i from.0 are.named from.1);
       listed = λ i one arrays at use_as.
-          let from = map_get member disks i one at in
+          let from = in_map member disks i one at in
           let is = spare_is views from.0 arrays (ap (λ (entry : ℕ × Member). entry.1.spare) from.2 ∙ use_as) in
           let again = sought_again (is_dedicated views from.0.reference) (arrays_in views) apart in (
             subst (λ (l : List (List ℕ)). filter (λ guid. list_any (λ other. bytes_eq guid other) arrays) l ≡ arrays) (sym names)
@@ -315,13 +290,13 @@ read_spares most group sequence views all are apart =
             is.1,
           );
       held = λ i a one entry at there sought.
-          let from = map_get member disks i one at in
-          let array = map_get make (arrays_in views) a entry there in
+          let from = in_map member disks i one at in
+          let array = in_map make (arrays_in views) a entry there in
           let for = is_for entry.0 one.1.spare sought in
           let is = spare_is views from.0 for.0 (ap (λ (x : ℕ × Member). x.1.spare) from.2 ∙ for.1) in
-          let some = any_some (λ guid. bytes_eq entry.0 guid) for.0 for.2 in
-          let listed = map_get (λ (one : ArrayEntry). one.guid) (filter (is_dedicated views from.0.reference) (arrays_in views)) some.0 some.1 (ap (λ (l : List (List ℕ)). slice_get l some.0) is.0 ∙ some.2) in
-          let passes = filtered (is_dedicated views from.0.reference) (arrays_in views) some.0 listed.0 listed.1 in
+          let some = any_place (λ guid. bytes_eq entry.0 guid) for.0 for.2 in
+          let listed = in_map (λ (one : ArrayEntry). one.guid) (filter (is_dedicated views from.0.reference) (arrays_in views)) some.0 some.1 (ap (λ (l : List (List ℕ)). slice_get l some.0) is.0 ∙ some.2) in
+          let passes = kept_passes (is_dedicated views from.0.reference) (arrays_in views) some.0 listed.0 listed.1 in
           let found = dedicated_there most disks views from.0.reference listed.0 all passes in
           let guid : listed.0.guid ≡ entry.0 = listed.2 ∙ sym (same_bytes entry.0 some.1 some.3) in
           let own : array.0.guid ≡ entry.0 = ap (λ (x : List ℕ × Array). x.0) array.2 in

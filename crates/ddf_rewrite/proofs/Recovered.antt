@@ -1,6 +1,6 @@
 -- The copy that a recovery gives a disk shows the configuration that the leaders give.
 use Rattle.std.proofs.Common.{◌≡◌, ℕ, zero, suc, ◌+◌, ◌<◌, ◌≤◌, Bool, true, false, ◌&&◌, ◌||◌, eqb, List, [], ◌∷◌, length, map, Option, Some, None, refl, ap, sym, ◌∙◌, subst, arith, inl}
-use Rattle.std.proofs.lemmas.Bool.{and_from, eq-eqb, false≢true}
+use Rattle.std.proofs.lemmas.Bool.{and_from, eq-eqb}
 use Rattle.std.proofs.lemmas.List.{length-map}
 use Rattle.std.proofs.lemmas.Simd.{map-map}
 use Rattle.std.proofs.lemmas.List.FromFn.{length-map-range_with_len}
@@ -9,6 +9,8 @@ use Rattle.std.specs.Option.{option_map_or}
 use Rattle.std.specs.List.{cons_option, enumerate_from, list_all, list_any, range_with_len}
 use Rattle.std.specs.Int.{w16}
 use Rattle.std.specs.Cmp.Lexicographic.{pointwise}
+use Rattle.ddf_lemmas.proofs.Lists.{bytes_same, get_filter_map, in_map, list_all_read, mapped_at, range_get}
+use Rattle.ddf_lemmas.proofs.Options.{some_from_is_some}
 use Rattle.ddf_bytes.specs.Bytes.{number_at}
 use Rattle.ddf_tables.specs.declared.disks.DiskEntry.{DiskEntry}
 use Rattle.ddf_tables.specs.declared.arrays.ArrayEntry.{ArrayEntry}
@@ -28,7 +30,7 @@ use Rattle.ddf_view.specs.View.{HeldRecord, View, find_held, find_note, is_missi
 use Rattle.ddf_view.specs.Readable.{HasNotes, IsReadable}
 use Rattle.ddf_view.proofs.Agreement.{Gives, Holds, dedicated_noted, records_read}
 use Rattle.ddf_view.proofs.Finds.{least_from}
-use Rattle.ddf_view.proofs.Tests.{bytes_same}
+use Rattle.ddf_view.proofs.AlikeCopies.{flag_again}
 use Rattle.ddf_rewrite.specs.Arrays.{array_on, arrays_after}
 use Rattle.ddf_rewrite.specs.Before.{before, leading_record}
 use Rattle.ddf_rewrite.specs.Copies.{own_record, recovered_copy, recovered_holding, recovered_holdings}
@@ -39,20 +41,19 @@ use Rattle.ddf_rewrite.specs.Notes.{Holding}
 use Rattle.ddf_rewrite.specs.Readable.{OneRebuilt}
 use Rattle.ddf_rewrite.specs.Wanted.{Wanted, all_wanted}
 use Rattle.ddf_rewrite.proofs.After.{note_if}
-use Rattle.ddf_rewrite.proofs.AllWanted.{filter_map_get, get_filter_map, is_wanted, wanted_one}
+use Rattle.ddf_rewrite.proofs.AllWanted.{filter_map_get, is_wanted, wanted_one}
 use Rattle.ddf_rewrite.proofs.Filled.{filled_spares}
 use Rattle.ddf_rewrite.proofs.Fully.{spare_again}
 use Rattle.ddf_rewrite.proofs.Given.{GivesAll, HoldsEach, elements_given, elements_held, not_wanted, plan_again}
 use Rattle.ddf_rewrite.proofs.Holdings.{AreSame}
 use Rattle.ddf_rewrite.proofs.Led.{is_led, led_apart, led_noted, led_same}
 use Rattle.ddf_rewrite.proofs.Listed.{leading_held, listed_leads, read_listed}
-use Rattle.ddf_rewrite.proofs.Lists.{all_at, get_map, get_range, list_all_get, map_get, some_same}
+use Rattle.ddf_rewrite.proofs.Lists.{all_at, get_range, some_same}
 use Rattle.ddf_rewrite.proofs.Made.{made_found, made_has_notes, made_none, made_noted}
 use Rattle.ddf_rewrite.proofs.Plans.{HasPlan, plan_noted}
-use Rattle.ddf_rewrite.proofs.ReadCan.{fits_all, is_read, plan_found, range_get}
+use Rattle.ddf_rewrite.proofs.ReadCan.{fits_all, is_read, plan_found}
 use Rattle.ddf_rewrite.proofs.ReadHas.{AllFit, count_few, read_readable, read_rebuilt}
 use Rattle.ddf_rewrite.proofs.Showing.{copy_arrays, copy_disks, copy_shows}
-use Rattle.ddf_rewrite.proofs.Tables.{same_flags}
 
 -- ---- the plan of a record
 
@@ -123,16 +124,11 @@ not_there : (disks : List DiskEntry) (given : Option SlotNote) (o : Option HeldR
 not_there disks given None h = refl
 not_there disks given (Some held) h = absurd cc
 
--- an element that is there
-some_plan : (o : Option ElementPlan) → is_some o ≡ true → (plan : ElementPlan) × (o ≡ Some plan)
-some_plan None h = absurd (false≢true h)
-some_plan (Some plan) h = (plan, refl)
-
 -- an element of an array that is read is what is held of it
 element_read : (disks : List DiskEntry) (elements : List HeldRecord) (guid : List ℕ) (count i : ℕ) (plan : Option ElementPlan) → slice_get (map (element_in disks elements guid) (range_with_len 0 count)) i ≡ Some plan
     → (element_in disks elements guid i ≡ plan) × (i < count)
 element_read disks elements guid count i plan at =
-    let from = map_get (element_in disks elements guid) (range_with_len 0 count) i plan at in
+    let from = in_map (element_in disks elements guid) (range_with_len 0 count) i plan at in
     let ranged = range_get 0 count i from.0 from.1 in
     let here : from.0 ≡ i = ranged.0 ∙ omega arith in
     (ap (element_in disks elements guid) (sym here) ∙ from.2, ranged.1)
@@ -149,7 +145,7 @@ naming_is most disks elements row pair fit e =
     let j = least.0 in
     let place : pair.0 ≡ j = least.1.place ∙ omega arith in
     let here = element_read disks elements guid count j pair.1 least.1.at in
-    let some = some_plan pair.1 least.1.there in
+    let some = some_from_is_some pair.1 least.1.there in
     let found = plan_found disks (find_note guid j elements) (find_held guid j elements) some.0 (here.0 ∙ some.1) in
     let few = count_few most elements guid fit in
     let lt = here.1 in
@@ -174,7 +170,7 @@ member_led views own disk =
     let reference : eqb disk.reference disk.reference ≡ true = eq-eqb disk.reference disk.reference refl in
     let guid = bytes_same disk.guid in
     let size : eqb disk.size disk.size ≡ true = eq-eqb disk.size disk.size refl in
-    let flag = same_flags (is_missing disk) in
+    let flag = flag_again (is_missing disk) in
     rw (reference, guid, size, flag) refl
 
 -- lists that are made of one match where what is made of each item does
@@ -311,7 +307,7 @@ module _ (old : DiskCopy) (group : List ℕ) (sequence : ℕ) (views : List View
   recovered_numbers : (a : ℕ) (entry : List ℕ × Array) (pair : ℕ × Option ElementPlan) → slice_get config.arrays a ≡ Some entry → least_element entry.1.elements ≡ Some pair → names_numbers view.elements entry pair ≡ true
   unfolding read
   recovered_numbers a entry pair at least =
-      let from = map_get (λ (row : ArrayEntry). (row.guid, array_in (disks_in views) elements row)) (arrays_in views) a entry at in
+      let from = in_map (λ (row : ArrayEntry). (row.guid, array_in (disks_in views) elements row)) (arrays_in views) a entry at in
       let row = from.0 in
       let read_least : least_element (array_in (disks_in views) elements row).elements ≡ Some pair = ap (λ (x : List ℕ × Array). least_element x.1.elements) from.2 ∙ least in
       numbers a entry pair at (subst (λ (x : List ℕ × Array). IsNaming elements x.0 x.1 pair) from.2 (naming_is old.header.geometry.max_members (disks_in views) elements row pair recovered_fit read_least))
@@ -393,13 +389,13 @@ module _ (old : DiskCopy) (group : List ℕ) (sequence : ℕ) (views : List View
       entry = (row.guid, array_in (disks_in views) elements row)
 
       there : slice_get config.arrays a ≡ Some entry
-      there = get_map (λ (one : ArrayEntry). (one.guid, array_in (disks_in views) elements one)) (arrays_in views) a row at
+      there = mapped_at (λ (one : ArrayEntry). (one.guid, array_in (disks_in views) elements one)) (arrays_in views) a row at
 
       element : slice_get entry.1.elements i ≡ Some (element_in (disks_in views) elements row.guid i)
       element =
           let place = get_range 0 (count_in elements row.guid) i lt in
           let here : place.0 ≡ i = place.1 ∙ omega arith in
-          get_map (element_in (disks_in views) elements row.guid) (range_with_len 0 (count_in elements row.guid)) i place.0 place.2 ∙ ap (λ (n : ℕ). Some (element_in (disks_in views) elements row.guid n)) here
+          mapped_at (element_in (disks_in views) elements row.guid) (range_with_len 0 (count_in elements row.guid)) i place.0 place.2 ∙ ap (λ (n : ℕ). Some (element_in (disks_in views) elements row.guid n)) here
 
       go : (o : Option ElementPlan) → element_in (disks_in views) elements row.guid i ≡ o → option_map (λ held. held.element.spares) (find_held row.guid i view.elements) ≡ option_map (λ held. held.element.spares) (find_held row.guid i elements)
       go None e =
@@ -415,9 +411,9 @@ module _ (old : DiskCopy) (group : List ℕ) (sequence : ℕ) (views : List View
   unfolding read array_in
   associated_led noted reference a row at =
       let entry : List ℕ × Array = (row.guid, array_in (disks_in views) elements row) in
-      let there : slice_get config.arrays a ≡ Some entry = get_map (λ (one : ArrayEntry). (one.guid, array_in (disks_in views) elements one)) (arrays_in views) a row at in
-      let gives : Gives entry view = list_all_get (gives_elements view.elements) config.arrays a entry (elements_given config view.elements can.names recovered_gives) there in
-      let has : Holds entry view = list_all_get (holds_all view.elements) config.arrays a entry (elements_held config view.elements (recovered_holds noted)) there in
+      let there : slice_get config.arrays a ≡ Some entry = mapped_at (λ (one : ArrayEntry). (one.guid, array_in (disks_in views) elements one)) (arrays_in views) a row at in
+      let gives : Gives entry view = list_all_read (gives_elements view.elements) config.arrays a entry (elements_given config view.elements can.names recovered_gives) there in
+      let has : Holds entry view = list_all_read (holds_all view.elements) config.arrays a entry (elements_held config view.elements (recovered_holds noted)) there in
       let readable = all_at (λ (one : List ℕ × Array). IsReadable one.1) config.arrays a entry (read_readable old.header.geometry.max_members group sequence views recovered_fit) there in
       let count : length entry.1.elements ≡ count_in elements row.guid = length-map-range_with_len (element_in (disks_in views) elements row.guid) 0 (count_in elements row.guid) in
       ap (λ (list : List HeldRecord). list_any (λ held. contains held.element.spares reference) list) (records_read entry view [] readable gives has tt)

@@ -1,11 +1,12 @@
 -- The tables that a change gives can be written.
-use Rattle.std.proofs.Common.{◌≡◌, ℕ, zero, suc, ◌≤◌, Bool, true, false, not, eqb, List, [], ◌∷◌, ◌++◌, length, map, take, replicate, refl, ap, sym, ◌∙◌, subst, arith}
+use Rattle.std.proofs.Common.{◌≡◌, ℕ, ◌≤◌, Bool, true, false, not, eqb, List, [], ◌∷◌, ◌++◌, length, map, replicate, refl, ap, sym, ◌∙◌, subst, arith}
 use Rattle.std.proofs.lemmas.List.{length-map, length-replicate, length-take-le, length-append}
 use Rattle.std.specs.Prelude.{filter, filter_map, nat_eq}
 use Rattle.std.specs.Option.{ForSome}
 use Rattle.std.specs.Int.{w16}
 use Rattle.std.specs.List.{AllByRecursion, IsDistinct}
 use Rattle.std.specs.Str.{bytes_eq}
+use Rattle.ddf_lemmas.proofs.Lists.{all_append, all_filter, all_replicate, all_taken, all_weaken}
 use Rattle.ddf_bytes.specs.Bytes.{number_at}
 use Rattle.ddf_header.specs.declared.kind.Revision.{Revision}
 use Rattle.ddf_tables.specs.Tables.{TableValue, replaced_table}
@@ -25,7 +26,7 @@ use Rattle.ddf_config.specs.declared.array.Array.{Array}
 use Rattle.ddf_config.specs.declared.member.Member.{Member}
 use Rattle.ddf_view.specs.View.{array_of, disk_of, find_disk}
 use Rattle.ddf_view.proofs.Finds.{find_has}
-use Rattle.ddf_view.proofs.Tests.{all_map}
+use Rattle.ddf_view.proofs.Names.{guids as guids_of, references}
 use Rattle.ddf_rewrite.specs.Arrays.{array_entry, array_on, array_rows_after, arrays_after, find_array}
 use Rattle.ddf_rewrite.specs.Disks.{block_size_of, changed_disks, disk_on, disk_rows_after, disks_for, filled, kind_in, member_entry, recovered_disks, rows_after, state_in}
 use Rattle.ddf_rewrite.specs.Hold.{FitsArray, FitsMember}
@@ -33,26 +34,13 @@ use Rattle.ddf_rewrite.specs.Wanted.{Wanted, all_wanted}
 use Rattle.ddf_rewrite.proofs.Filled.{filled_references, filled_rows}
 use Rattle.ddf_rewrite.proofs.Flags.{kind_fits, state_fits}
 use Rattle.ddf_rewrite.proofs.Tables.{disks_read, arrays_read}
-use Rattle.ddf_rewrite.proofs.Lists.{all_append, all_replicate, all_mapped}
+use Rattle.ddf_rewrite.proofs.Lists.{all_mapped}
 
 -- ---- rows of a table
 
-all_take : {X : Type 0} (P : X → Type 0) (n : ℕ) (xs : List X) → AllByRecursion P xs → AllByRecursion P (take n xs)
-all_take P zero xs h = tt
-all_take P (suc n) [] h = tt
-all_take P (suc n) (x ∷ xs) h = (h.0, all_take P n xs h.1)
-
-all_filter : {X : Type 0} (P : X → Type 0) (t : X → Bool) (xs : List X) → AllByRecursion P xs → AllByRecursion P (filter t xs)
-all_filter P t [] h = tt
-all_filter {X = X} P t (x ∷ xs) h = go (all_filter P t xs h.1) (t x) refl
-  where
-    go : AllByRecursion P (filter t xs) → (b : Bool) → t x ≡ b → AllByRecursion P (filter t (x ∷ xs))
-    go later true e = rw e (h.0, later)
-    go later false e = rw e later
-
 rows_good : {Row : Type 0} (P : Row → Type 0) (is_used : Row → Bool) (unused : Row) (entries rows : List Row) → P unused → AllByRecursion P entries → AllByRecursion P rows → AllByRecursion P (rows_after is_used unused entries rows)
 rows_good P is_used unused entries rows blank new old =
-    all_take P (length rows) (entries ++ filter (λ row. not (is_used row)) rows ++ replicate (length rows) unused)
+    all_taken P (length rows) (entries ++ filter (λ row. not (is_used row)) rows ++ replicate (length rows) unused)
     (all_append P (entries ++ filter (λ row. not (is_used row)) rows) (replicate (length rows) unused)
     (all_append P entries (filter (λ row. not (is_used row)) rows) new (all_filter P (λ row. not (is_used row)) rows old)) (all_replicate P (length rows) unused blank))
 
@@ -75,12 +63,6 @@ changed_row all disks own block_size entry good fits =
     disk_over_can (find_disk entry.0 own) block_size (member_entry all disks entry)
     (fits.guid, (fits.reference, (kind_fits all entry (kind_in disks entry.0), (state_fits all entry (state_in disks entry.0), (fits.size, tt))))) (find_good entry.0 own good) fits.used
 
--- the references of rows are those of their entries
-pub references_of : (rows : List DiskRow) → filter_map reference_of rows ≡ map (λ (disk : DiskEntry). disk.reference) (filter_map disk_of rows)
-references_of [] = refl
-references_of (disk_rows.Entry entry ∷ rows) = ap (λ (l : List ℕ). entry.reference ∷ l) (references_of rows)
-references_of (disk_rows.Unused whole ∷ rows) = references_of rows
-
 blank_disk : IsDiskRow (disk_rows.Unused (replicate 64 255))
 blank_disk = (refl, refl)
 
@@ -91,7 +73,7 @@ pub disks_can : (max : ℕ) (table : TableValue DiskRow) (entries : List DiskEnt
 unfolding disk_rows_after
 disks_can max table entries can good few named apart =
     let names : filter_map reference_of (disk_rows_after table.rows entries) ≡ map (λ (disk : DiskEntry). disk.reference) entries =
-    references_of (disk_rows_after table.rows entries) ∙ ap (λ (l : List DiskEntry). map (λ (disk : DiskEntry). disk.reference) l) (disks_read table.rows entries few) in
+    references (disk_rows_after table.rows entries) ∙ ap (λ (l : List DiskEntry). map (λ (disk : DiskEntry). disk.reference) l) (disks_read table.rows entries few) in
     replaced_can_be_written IsDiskRow is_used_disk HaveReferences max table (disk_rows_after table.rows entries)
     (rows_count is_used_disk (disk_rows.Unused (replicate 64 255)) (map disk_rows.Entry entries) table.rows) can
     (rows_good IsDiskRow is_used_disk (disk_rows.Unused (replicate 64 255)) (map disk_rows.Entry entries) table.rows blank_disk (all_mapped IsDiskRow disk_rows.Entry entries good) can.rows_good)
@@ -123,7 +105,7 @@ changed_rows : (all : List Wanted) (disks own : List DiskEntry) (block_size : �
     → AllByRecursion IsDiskEntry (map (λ entry. disk_on own block_size (member_entry all disks entry)) members)
 changed_rows all disks own block_size members good fit =
     all_mapped IsDiskEntry (λ entry. disk_on own block_size (member_entry all disks entry)) members
-    (all_map FitsMember (λ entry. IsDiskEntry (disk_on own block_size (member_entry all disks entry))) (λ entry fits. changed_row all disks own block_size entry good fits) members fit)
+    (all_weaken FitsMember (λ entry. IsDiskEntry (disk_on own block_size (member_entry all disks entry))) (λ entry fits. changed_row all disks own block_size entry good fits) members fit)
 
 -- The disk table after a change can be written.
 pub changed_disks_can : (max : ℕ) (table : TableValue DiskRow) (config : Configuration) (disks : List DiskEntry) (revision : Revision) → IsDiskTable max table → AllByRecursion FitsMember config.members → length config.members ≤ length table.rows
@@ -160,7 +142,7 @@ recovered_disks_can max table revision noted config disks can good few named apa
     let same = recovered_references own disks in
     let owns = own_disks_good table.rows can.rows_good in
     filled_can max table revision noted config (map make disks) can
-    (all_mapped IsDiskEntry make disks (all_map IsDiskEntry (λ disk. IsDiskEntry (make disk)) (λ disk is. recovered_row own disk owns is) disks good)) (omega (arith, count, few))
+    (all_mapped IsDiskEntry make disks (all_weaken IsDiskEntry (λ disk. IsDiskEntry (make disk)) (λ disk is. recovered_row own disk owns is) disks good)) (omega (arith, count, few))
     (subst (λ (l : List ℕ). AllByRecursion (λ reference. is_no_disk reference ≡ false) l) (sym same) (all_mapped (λ reference. is_no_disk reference ≡ false) (λ (disk : DiskEntry). disk.reference) disks named))
     (subst (λ (l : List ℕ). IsDistinct nat_eq l) (sym same) apart)
 
@@ -173,11 +155,6 @@ array_row : (own : List ArrayEntry) (entry : List ℕ × Array) → AllByRecursi
 array_row own entry good fits =
     array_over_can (find_array entry.0 own) (array_entry entry) (fits.guid, (fits.number, (fits.state, (fits.init, (fits.name, tt)))))
     (λ array is. find_has IsArrayEntry (λ one. bytes_eq one.guid entry.0) own array good is) fits.used
-
-pub guids_of : (rows : List ArrayRow) → filter_map guid_of rows ≡ map (λ (array : ArrayEntry). array.guid) (filter_map array_of rows)
-guids_of [] = refl
-guids_of (array_rows.Entry entry ∷ rows) = ap (λ (l : List (List ℕ)). entry.guid ∷ l) (guids_of rows)
-guids_of (array_rows.Unused whole ∷ rows) = guids_of rows
 
 pub own_arrays_good : (rows : List ArrayRow) → AllByRecursion IsArrayRow rows → AllByRecursion IsArrayEntry (filter_map array_of rows)
 own_arrays_good [] good = tt
@@ -203,7 +180,7 @@ arrays_can max table config can fit few apart =
     let entries = map make config.arrays in
     let count = length-map config.arrays make in
     let owns = own_arrays_good table.rows can.rows_good in
-    let good = all_mapped IsArrayEntry make config.arrays (all_map FitsArray (λ entry. IsArrayEntry (make entry)) (λ entry fits. array_row own entry owns fits) config.arrays fit) in
+    let good = all_mapped IsArrayEntry make config.arrays (all_weaken FitsArray (λ entry. IsArrayEntry (make entry)) (λ entry fits. array_row own entry owns fits) config.arrays fit) in
     let names : filter_map guid_of (array_rows_after table.rows entries) ≡ map (λ (entry : List ℕ × Array). entry.0) config.arrays =
     guids_of (array_rows_after table.rows entries) ∙ ap (λ (l : List ArrayEntry). map (λ (array : ArrayEntry). array.guid) l) (arrays_read table.rows entries (omega (arith, count, few))) ∙ same_guids own config.arrays in
     replaced_can_be_written IsArrayRow is_used_array HaveGuids max table (array_rows_after table.rows entries)

@@ -7,8 +7,9 @@ use Rattle.std.specs.Option.{option_map_or}
 use Rattle.std.specs.List.{AllByRecursion, enumerate_from, cons_option}
 use Rattle.std.specs.Int.{w32}
 use Rattle.std.specs.Str.{bytes_eq}
+use Rattle.ddf_lemmas.proofs.Lists.{in_map}
 use Rattle.ddf_bytes.specs.Bytes.{number_at}
-use Rattle.ddf_seal.specs.Unread.{AreBytes}
+use Rattle.ddf_seal.proofs.Common.{bytes_replicate}
 use Rattle.ddf_header.specs.declared.geometry.Geometry.{Geometry}
 use Rattle.ddf_config_records.specs.declared.notes.Notes.{Notes}
 use Rattle.ddf_config_records.specs.declared.spare.SpareRecord.{SpareRecord}
@@ -31,14 +32,9 @@ use Rattle.ddf_rewrite.specs.declared.item.Slotted.{Slotted}
 use Rattle.ddf_rewrite.proofs.After.{made_slots, note_is, notes_none, notes_valid}
 use Rattle.ddf_rewrite.proofs.InPlace.{AreInPlace}
 use Rattle.ddf_rewrite.proofs.SparesCan.{CanBeOwn}
-use Rattle.ddf_rewrite.proofs.Lists.{map_get, enumerated_get}
+use Rattle.ddf_rewrite.proofs.Lists.{enumerated_get}
 
 -- ---- an unused slot
-
-ffs_are_bytes : (count : ℕ) → AreBytes (replicate count 255)
-ffs_are_bytes zero i = omega arith
-ffs_are_bytes (suc count) zero = omega arith
-ffs_are_bytes (suc count) (suc i) = ffs_are_bytes count i
 
 ffs_unknown : (n : ℕ) → 4 ≤ n → is_known (number_at w32 (replicate n 255) 0) ≡ false
 ffs_unknown zero le = absurd (omega (arith, le))
@@ -50,7 +46,7 @@ ffs_unknown (suc (suc (suc (suc n)))) le = refl
 unused_can : (geometry : Geometry) → HasRoom geometry → IsUnused geometry (replicate (record_size geometry) 255)
 unused_can geometry room = record {
   size = length-replicate {A = ℕ} (record_size geometry) 255;
-  are_bytes = ffs_are_bytes (record_size geometry);
+  are_bytes = bytes_replicate (record_size geometry);
   unknown = ffs_unknown (record_size geometry) (let whole = room.whole in omega (arith, whole));
 }
 
@@ -90,7 +86,7 @@ placed_can geometry count listed holdings notes spare old room can elements (Som
 
 -- ---- all slots
 
-count_after : (geometry : Geometry) (holdings : List Holding) (notes : Notes) (spare : SpareRecord) (placed : List Slotted) (all : List RecordSlot) → length (made_slots geometry holdings notes spare placed all) ≡ length all
+pub count_after : (geometry : Geometry) (holdings : List Holding) (notes : Notes) (spare : SpareRecord) (placed : List Slotted) (all : List RecordSlot) → length (made_slots geometry holdings notes spare placed all) ≡ length all
 count_after geometry holdings notes spare placed all = length-map (enumerate_from 0 all) (slot_after geometry holdings notes spare placed) ∙ length-enumerate_from 0 all
 
 -- what the slots are made of
@@ -104,7 +100,7 @@ pub slots_can : (geometry : Geometry) (config : Configuration) (holdings : List 
     → AreMade geometry config holdings notes spare placed all → CanBeSlots geometry config.group config.sequence (made_slots geometry holdings notes spare placed all)
 slots_can geometry config holdings notes spare placed all group sequence room can made = record {
   each = λ k slot at.
-      let from = map_get (slot_after geometry holdings notes spare placed) (enumerate_from 0 all) k slot at in
+      let from = in_map (slot_after geometry holdings notes spare placed) (enumerate_from 0 all) k slot at in
       let pair = from.0 in
       let numbered = enumerated_get 0 all k pair from.1 in
       let here : pair.0 ≡ k = numbered.0 ∙ omega arith in
@@ -120,9 +116,6 @@ slots_can geometry config holdings notes spare placed all group sequence room ca
   where
     within : (xs : List RecordSlot) (i : ℕ) (x : RecordSlot) → slice_get xs i ≡ Some x → i < length xs
     within xs i x h = place_within xs i x h
-
-pub slots_count_after : (geometry : Geometry) (holdings : List Holding) (notes : Notes) (spare : SpareRecord) (placed : List Slotted) (all : List RecordSlot) → length (made_slots geometry holdings notes spare placed all) ≡ length all
-slots_count_after geometry holdings notes spare placed all = count_after geometry holdings notes spare placed all
 
 -- ---- which slots the notes list
 

@@ -1,6 +1,6 @@
 -- The associated spares of an element after a change tell which members are spares of its array.
 use Rattle.std.proofs.Common.{◌≡◌, ℕ, zero, suc, Bool, true, false, not, ◌&&◌, ◌||◌, cond, eqb, List, [], ◌∷◌, map, replicate, Option, Some, None, refl, ap, sym, ◌∙◌, ⊎_elim}
-use Rattle.std.proofs.lemmas.Bool.{and_parts, or_parts, or_from, eqb-true, eqb-false, eq-eqb, ne_eqb, false≢true, cases_eq}
+use Rattle.std.proofs.lemmas.Bool.{and_parts, or_parts, or_from, eqb-true, eqb-false, eq-eqb, ne_eqb, false≢true, cases_eq, cond-true, or_right}
 use Rattle.std.specs.Prelude.{slice_get, filter, fold, is_some, nat_eq}
 use Rattle.std.specs.Option.{option_map_or}
 use Rattle.std.specs.List.{list_all}
@@ -12,19 +12,17 @@ use Rattle.ddf_config.specs.Configuration.{Configuration}
 use Rattle.ddf_config.specs.declared.member.Member.{Member}
 use Rattle.ddf_view.specs.Differ.{same_record}
 use Rattle.ddf_view.specs.View.{HeldRecord}
-use Rattle.ddf_view.proofs.Finds.{when_true}
 use Rattle.ddf_rewrite.specs.Elements.{add_spare, altered, changed_record, contains, has_places, is_spare_for, keeping, kept_spare, no_reference, planned, spares_after, spares_of, with_spare}
 use Rattle.ddf_rewrite.specs.Readable.{HasSpares}
 use Rattle.ddf_rewrite.specs.Wanted.{Wanted}
 use Rattle.ddf_rewrite.proofs.Holdings.{are_same}
-use Rattle.ddf_rewrite.proofs.Lists.{or_true}
 
 -- ---- associated spares
 
 kept_other : (config : Configuration) (dedicated : List ℕ) (r x : ℕ) → is_some (lookup (nat_eq r) config.members) ≡ true → contains dedicated r ≡ false → eqb r no_reference ≡ false → eqb (kept_spare config dedicated x) r ≡ false
 kept_other config dedicated r x member away named = ⊎_elim (λ (same : x ≡ r).
     let both : (is_some (lookup (nat_eq r) config.members) && not (contains dedicated r)) ≡ true = rw (member, away) refl in
-    let kept : kept_spare config dedicated r ≡ no_reference = when_true (is_some (lookup (nat_eq r) config.members) && not (contains dedicated r)) no_reference r both in
+    let kept : kept_spare config dedicated r ≡ no_reference = cond-true (is_some (lookup (nat_eq r) config.members) && not (contains dedicated r)) no_reference r both in
     ap (λ (y : ℕ). eqb (kept_spare config dedicated y) r) same ∙ ap (λ (y : ℕ). eqb y r) kept ∙ ne_eqb no_reference r (λ e. eqb-false r no_reference named (sym e)))
     (λ (apart : x ≡ r → ⊥). go (is_some (lookup (nat_eq x) config.members) && not (contains dedicated x)) apart)
     (cases_eq x r)
@@ -109,7 +107,7 @@ spare_there array (x ∷ members) zero entry h is =
 spare_there array (x ∷ members) (suc i) entry h is = go (spare_there array members i entry h is) (is_spare_for array x.1.spare) refl
   where
     go : contains (spares_in members array) entry.0 ≡ true → (b : Bool) → is_spare_for array x.1.spare ≡ b → contains (spares_in (x ∷ members) array) entry.0 ≡ true
-    go rest true e = rw e (or_true (eqb x.0 entry.0) (contains (spares_in members array) entry.0) rest)
+    go rest true e = rw e (or_right (eqb x.0 entry.0) (contains (spares_in members array) entry.0) rest)
     go rest false e = rw e rest
 
 spare_not : (array : List ℕ) (members : List (ℕ × Member)) (reference : ℕ) → ((j : ℕ) (other : ℕ × Member) → slice_get members j ≡ Some other → other.0 ≡ reference → is_spare_for array other.1.spare ≡ false) → contains (spares_in members array) reference ≡ false

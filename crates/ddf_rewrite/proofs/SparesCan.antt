@@ -1,40 +1,31 @@
 -- The spare record that a change gives can be written.
-use Rattle.std.proofs.Common.{◌≡◌, ℕ, suc, ◌+◌, ◌*◌, ◌<◌, ◌≤◌, ◌^◌, Bool, true, false, cond, List, [], ◌∷◌, length, map, Option, Some, None, refl, ap, sym, ◌∙◌, subst, arith}
+use Rattle.std.proofs.Common.{◌≡◌, ℕ, suc, ◌<◌, ◌≤◌, ◌^◌, Bool, true, false, cond, List, [], ◌∷◌, length, map, Option, Some, None, refl, ap, sym, ◌∙◌, subst, arith}
 use Rattle.std.proofs.lemmas.List.{length-replicate}
 use Rattle.std.specs.Prelude.{slice_get, filter, nat_eq}
 use Rattle.std.specs.List.{AllByRecursion}
 use Rattle.std.specs.Map.{lookup}
-use Rattle.ddf_seal.specs.Seal.{seal_place}
-use Rattle.ddf_seal.specs.Unread.{places}
-use Rattle.ddf_seal.proofs.Same.{AreWithin}
+use Rattle.std.proofs.lemmas.Bool.{cond-false, cond-true}
 use Rattle.ddf_seal.proofs.Records.{written_outside}
 use Rattle.ddf_header.specs.declared.geometry.Geometry.{Geometry}
 use Rattle.ddf_header.specs.Geometry.{IsSound}
 use Rattle.ddf_config_records.specs.declared.spare.SpareRecord.{SpareRecord}
-use Rattle.ddf_config_records.specs.declared.layout.TheConstants.{SPARE_TIMESTAMP_AT, SPARE_KIND_AT, SPARE_ENTRIES_AT, SPARE_ENTRY_BYTES}
+use Rattle.ddf_config_records.specs.declared.layout.TheConstants.{SPARE_ENTRIES_AT}
 use Rattle.ddf_config_records.specs.Elements.{record_size, HasRoom}
-use Rattle.ddf_config_records.specs.Spares.{entry_fields, spare_fields, CanBeSpare}
+use Rattle.ddf_config_records.specs.Spares.{spare_fields, CanBeSpare}
 use Rattle.ddf_config_records.specs.Building.{spare_bytes, spare_entries}
-use Rattle.ddf_config_records.proofs.Spans.{within-append}
-use Rattle.ddf_config_records.proofs.Spares.{entries_within, spare_head_within}
-use Rattle.ddf_config_records.proofs.SpareRecords.{count_fits}
+use Rattle.ddf_config_records.proofs.SpareRecords.{count_fits, spare_within}
 use Rattle.ddf_config_records.proofs.Building.{entries_fit, spare_over_can}
 use Rattle.ddf_config.specs.Configuration.{Configuration}
 use Rattle.ddf_config.specs.declared.array.Array.{Array}
 use Rattle.ddf_config.specs.declared.member.Member.{Member}
 use Rattle.ddf_config.specs.declared.member.SpareUse.TheVariants as uses
 use Rattle.ddf_config.specs.declared.member.SpareUse.{SpareUse}
-use Rattle.ddf_view.proofs.Finds.{when_true, when_false}
 use Rattle.ddf_rewrite.specs.Elements.{is_spare_for}
 use Rattle.ddf_rewrite.specs.Hold.{FitsArray}
 use Rattle.ddf_rewrite.specs.Readable.{HasSpares}
 use Rattle.ddf_rewrite.specs.Spares.{arrays_of_spare, kind_of_spare, same_spare_record, spare_after, spare_at_time, spare_use, time_of}
 
 -- ---- the record of a spare
-
-spare_within : (spare : SpareRecord) (size : ℕ) → 512 ≤ size → SPARE_ENTRIES_AT + SPARE_ENTRY_BYTES * length spare.arrays ≤ size → AreWithin size (seal_place ∷ places (spare_fields spare))
-spare_within spare size long room =
-    within-append size (seal_place ∷ record { at = SPARE_TIMESTAMP_AT; length = 4 } ∷ record { at = SPARE_KIND_AT; length = 1 } ∷ []) (places (entry_fields SPARE_ENTRIES_AT spare.arrays)) (spare_head_within size long) (entries_within SPARE_ENTRIES_AT size spare.arrays room)
 
 kind_small : (use_as : SpareUse) → kind_of_spare use_as < 2 ^ 8
 kind_small uses.No = omega arith
@@ -95,8 +86,8 @@ found_member reference (x ∷ members) member h = go (found_member reference mem
   where
     go : (lookup (nat_eq reference) members ≡ Some member → (i : ℕ) × (one : ℕ × Member) × (slice_get members i ≡ Some one) × (one.1 ≡ member)) → (b : Bool) → nat_eq reference x.0 ≡ b
         → (i : ℕ) × (one : ℕ × Member) × (slice_get (x ∷ members) i ≡ Some one) × (one.1 ≡ member)
-    go later true e = let got : Some x.1 ≡ Some member = sym (when_true (nat_eq reference x.0) (Some x.1) (lookup (nat_eq reference) members) e) ∙ h in (0, x, refl, cc)
-    go later false e = let rest = later (sym (when_false (nat_eq reference x.0) (Some x.1) (lookup (nat_eq reference) members) e) ∙ h) in (suc rest.0, rest.1, rest.2, rest.3)
+    go later true e = let got : Some x.1 ≡ Some member = sym (cond-true (nat_eq reference x.0) (Some x.1) (lookup (nat_eq reference) members) e) ∙ h in (0, x, refl, cc)
+    go later false e = let rest = later (sym (cond-false (nat_eq reference x.0) (Some x.1) (lookup (nat_eq reference) members) e) ∙ h) in (suc rest.0, rest.1, rest.2, rest.3)
 
 guids_long : (t : List ℕ → Bool) (arrays : List (List ℕ × Array)) → AllByRecursion FitsArray arrays → AllByRecursion (λ guid. length guid ≡ 24) (filter t (map (λ entry. entry.0) arrays))
 guids_long t [] all = tt

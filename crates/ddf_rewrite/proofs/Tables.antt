@@ -1,5 +1,5 @@
 -- The tables that are written give the members and the arrays.
-use Rattle.std.proofs.Common.{◌≡◌, ℕ, zero, suc, ◌≤◌, Bool, true, false, not, ◌||◌, eqb, List, [], ◌∷◌, ◌++◌, length, map, take, replicate, Option, Some, None, refl, ap, ◌∙◌, arith}
+use Rattle.std.proofs.Common.{◌≡◌, ℕ, zero, suc, ◌≤◌, Bool, true, not, ◌||◌, eqb, List, [], ◌∷◌, ◌++◌, length, map, take, replicate, Option, Some, None, refl, ap, ◌∙◌, arith}
 use Rattle.std.proofs.lemmas.Bool.{eq-eqb}
 use Rattle.std.specs.Prelude.{filter, filter_map}
 use Rattle.std.specs.List.{AllByRecursion, cons_option}
@@ -13,17 +13,18 @@ use Rattle.ddf_tables.specs.declared.arrays.ArrayRow.TheVariants as array_rows
 use Rattle.ddf_tables.specs.Disks.{is_used_disk}
 use Rattle.ddf_tables.specs.Arrays.{is_used_array}
 use Rattle.std.specs.Cmp.Lexicographic.{pointwise}
+use Rattle.ddf_lemmas.proofs.Lists.{all_append, all_replicate, bytes_same}
 use Rattle.ddf_config.specs.Configuration.{Configuration}
 use Rattle.ddf_config.specs.declared.array.Array.{Array}
 use Rattle.ddf_config.specs.declared.member.Member.{Member}
 use Rattle.ddf_view.specs.Shows.{gives_array, gives_member, same_flag}
 use Rattle.ddf_view.specs.View.{array_of, disk_of, has_bit}
-use Rattle.ddf_view.proofs.Tests.{bytes_same}
+use Rattle.ddf_view.proofs.AlikeCopies.{flag_again}
 use Rattle.ddf_rewrite.specs.Arrays.{array_on, array_rows_after, arrays_after}
 use Rattle.ddf_rewrite.specs.Disks.{block_size_of, changed_disks, disk_on, disk_rows_after, member_entry, state_after, state_in}
 use Rattle.ddf_rewrite.specs.Wanted.{Wanted, all_wanted}
 use Rattle.ddf_rewrite.proofs.Flags.{missing_after}
-use Rattle.ddf_rewrite.proofs.Lists.{all_append, all_replicate, match_made}
+use Rattle.ddf_rewrite.proofs.Lists.{match_made}
 
 -- ---- rows
 
@@ -67,17 +68,13 @@ arrays_read rows entries few =
 
 -- ---- a member
 
-pub same_flags : (b : Bool) → same_flag b b ≡ true
-same_flags true = refl
-same_flags false = refl
-
 member_given : (all : List Wanted) (disks own : List DiskEntry) (block_size : ℕ) (entry : ℕ × Member) → gives_member (disk_on own block_size (member_entry all disks entry)) entry ≡ true
 member_given all disks own block_size entry =
     let reference : eqb entry.0 entry.0 ≡ true = eq-eqb entry.0 entry.0 refl in
     let guid = bytes_same entry.1.guid in
     let size : eqb entry.1.size entry.1.size ≡ true = eq-eqb entry.1.size entry.1.size refl in
     let kept = state_in disks entry.0 in
-    let flag : same_flag (has_bit (state_after all entry kept) 1 || has_bit (state_after all entry kept) 6) entry.1.missing ≡ true = ap (λ (b : Bool). same_flag b entry.1.missing) (missing_after all entry kept) ∙ same_flags entry.1.missing in
+    let flag : same_flag (has_bit (state_after all entry kept) 1 || has_bit (state_after all entry kept) 6) entry.1.missing ≡ true = ap (λ (b : Bool). same_flag b entry.1.missing) (missing_after all entry kept) ∙ flag_again entry.1.missing in
     rw (reference, guid, size, flag) refl
 
 pub members_given : (config : Configuration) (disks own : List DiskEntry) (revision : Revision) → pointwise gives_member (changed_disks config disks revision own) config.members ≡ true

@@ -5,6 +5,7 @@ use Rattle.std.proofs.lemmas.Nat.Bits.{bit_at-lt, bit_at_or}
 use Rattle.std.specs.Prelude.{option_map, slice_get}
 use Rattle.std.specs.Int.{bit_at}
 use Rattle.std.specs.Int.RustNames.{bit_or}
+use Rattle.ddf_lemmas.proofs.Lists.{mapped_at}
 use Rattle.ddf_tables.specs.DiskFlags.{spare}
 use Rattle.ddf_tables.specs.declared.disks.DiskEntry.{DiskEntry}
 use Rattle.ddf_copy.specs.declared.copy.DiskCopy.{DiskCopy}
@@ -18,7 +19,6 @@ use Rattle.ddf_rewrite.specs.Disks.{block_size_of, changed_disks, disk_on, disks
 use Rattle.ddf_rewrite.specs.Wanted.{all_wanted}
 use Rattle.ddf_rewrite.proofs.Changed.{disks_are}
 use Rattle.ddf_rewrite.proofs.Flags.{kind_global, rebuilding_after}
-use Rattle.ddf_rewrite.proofs.Lists.{get_map}
 
 spare_bit : (kind : ℕ) → has_bit (bit_or kind spare) 3 ≡ true
 spare_bit kind =
@@ -35,7 +35,7 @@ module _ (old : DiskCopy) (leaders : Before) (config : Configuration) (timestamp
   unfolding disks_for changed_disks make
   there =
       ap (λ (disks : List DiskEntry). slice_get disks k) (disks_are old leaders config timestamp can.room)
-      ∙ get_map (filled old.header.revision true (all_wanted config)) (map make config.members) k (make entry) (get_map make config.members k entry at)
+      ∙ mapped_at (filled old.header.revision true (all_wanted config)) (map make config.members) k (make entry) (mapped_at make config.members k entry at)
 
   state_is : has_bit (make entry).state.0 2 ≡ true
   unfolding make

@@ -3,22 +3,21 @@ use Rattle.std.proofs.Common.{◌≡◌, ℕ, suc, ◌<◌, ◌≤◌, ◌^◌, 
 use Rattle.std.proofs.lemmas.Bool.{ltb-false, false≢true}
 use Rattle.std.specs.Prelude.{slice_get, filter_map}
 use Rattle.std.specs.List.{AllByRecursion, cons_option}
+use Rattle.ddf_lemmas.proofs.Lists.{all_from}
 use Rattle.ddf_header.specs.declared.geometry.Geometry.{Geometry}
-use Rattle.ddf_header.specs.Geometry.{IsSound}
-use Rattle.ddf_header.proofs.Sound.{sound}
 use Rattle.ddf_tables.specs.declared.disks.DiskEntry.{DiskEntry}
 use Rattle.ddf_tables.specs.Tables.{replaced_table}
 use Rattle.ddf_tables.specs.Disks.{is_used_disk, is_no_disk, IsDiskTable}
 use Rattle.ddf_tables.specs.Arrays.{is_used_array, IsArrayTable}
-use Rattle.ddf_config_records.specs.Elements.{record_size, HasRoom, CanBeElement}
+use Rattle.ddf_config_records.specs.Elements.{record_size, CanBeElement}
 use Rattle.ddf_config_records.specs.Spares.{CanBeSpare}
 use Rattle.ddf_config_records.specs.NoteRecords.{note_place}
 use Rattle.ddf_config_records.specs.Slots.{CanBeSlots}
-use Rattle.ddf_config_records.proofs.Sound.{room_from_sound}
 use Rattle.ddf_config_records.proofs.Fits.{do_fit}
 use Rattle.ddf_copy.specs.declared.copy.DiskCopy.{DiskCopy}
 use Rattle.ddf_copy.specs.Written.{CanBeCopy}
 use Rattle.ddf_config_records.specs.Building.{spare_entries}
+use Rattle.ddf_copy.proofs.Levels.{room_of}
 use Rattle.ddf_config.specs.Configuration.{Configuration}
 use Rattle.ddf_config.specs.declared.member.Member.{Member}
 use Rattle.ddf_view.specs.View.{HeldRecord, find_held, first_spare, is_element, notes_of, view_of}
@@ -37,28 +36,17 @@ use Rattle.ddf_rewrite.specs.Wanted.{Wanted, all_wanted}
 use Rattle.ddf_rewrite.proofs.After.{never_notes}
 use Rattle.ddf_rewrite.proofs.Changed.{changed_makes}
 use Rattle.ddf_rewrite.proofs.Led.{is_led, led_apart}
-use Rattle.ddf_rewrite.proofs.Made.{items_differ, made_apart}
+use Rattle.ddf_rewrite.proofs.Made.{items_differ, made_apart, slots_long}
 use Rattle.ddf_rewrite.proofs.ElementsCan.{given, CanBeHeld, changed_can, recovered_can}
 use Rattle.ddf_rewrite.proofs.NotesCan.{HasPlan, notes_can}
 use Rattle.ddf_rewrite.proofs.InPlace.{AreInPlace, in_place}
 use Rattle.ddf_rewrite.proofs.RowsCan.{changed_disks_can, recovered_disks_can, arrays_can}
-use Rattle.ddf_rewrite.proofs.SlotsCan.{HasElement, slots_can, slots_count_after, listed_noted, listed_none, elements_can, first_spare_can}
+use Rattle.ddf_rewrite.proofs.SlotsCan.{HasElement, slots_can, listed_noted, listed_none, elements_can, first_spare_can}
 use Rattle.ddf_rewrite.proofs.SparesCan.{spare_can, spare_arrays_fit}
-use Rattle.ddf_rewrite.proofs.Lists.{all_by_get, all_mapped}
+use Rattle.ddf_rewrite.proofs.Lists.{all_mapped}
+use Rattle.ddf_rewrite.proofs.Premises.{is_sound}
 
 -- ---- any copy after another
-
-sound_of : (copy : DiskCopy) → CanBeCopy copy → IsSound copy.header.geometry
-sound_of copy is = sound copy.header.geometry is.header_can.is_header.has_geometry
-
-room_of : (copy : DiskCopy) → CanBeCopy copy → HasRoom copy.header.geometry
-room_of copy is = room_from_sound copy.header.geometry (sound_of copy is)
-
-count_of : (old : DiskCopy) (noted : Bool) (config : Configuration) (timestamp : ℕ) (holdings : List Holding) → length (slots_after old noted config timestamp holdings) ≡ length old.slots
-unfolding slots_after
-count_of old noted config timestamp holdings =
-    let placed = slotted_on old noted config holdings in
-    slots_count_after old.header.geometry holdings (notes_after config holdings placed (length old.slots)) (spare_after old.header.geometry timestamp (spare_use config old.disk_data.reference) (first_spare old.slots)) placed old.slots
 
 -- The header, the controller, the disk data and the log stay but for the group and the sequence.
 copy_can : (old : DiskCopy) (noted : Bool) (config : Configuration) (timestamp : ℕ) (disks : List DiskEntry) (holdings : List Holding) → CanBeCopy old → length config.group ≡ 24 → config.sequence < 2 ^ 32
@@ -83,7 +71,7 @@ copy_can old noted config timestamp disks holdings is group sequence disks_can a
       arrays_size = is.arrays_size;
       slots_can = slots_can;
       slots_fit = do_fit old.header.geometry config.group config.sequence (slots_after old noted config timestamp holdings) (room_of old is) slots_can;
-      slots_count = count_of old noted config timestamp holdings ∙ is.slots_count;
+      slots_count = slots_long old noted config timestamp holdings ∙ is.slots_count;
       disk_data_can = is.disk_data_can;
       has_log = is.has_log;
     }
@@ -113,7 +101,7 @@ spare_record_can : (old : DiskCopy) (config : Configuration) (timestamp : ℕ) �
 spare_record_can old config timestamp is spares can time fit =
     let geometry = old.header.geometry in
     let use_as = spare_use config old.disk_data.reference in
-    spare_can geometry timestamp use_as (first_spare old.slots) (sound_of old is) (room_of old is) time (spare_arrays_fit config old.disk_data.reference spares can.arrays)
+    spare_can geometry timestamp use_as (first_spare old.slots) (is_sound old is) (room_of old is) time (spare_arrays_fit config old.disk_data.reference spares can.arrays)
     (ltb-false (spare_entries geometry) (length (arrays_of_spare use_as)) fit) (first_spare_can geometry old.header.guid old.header.sequence old.slots is.slots_can)
 
 after_slots : (old : DiskCopy) (noted : Bool) (config : Configuration) (timestamp : ℕ) (holdings : List Holding) → CanBeCopy old → HasSpares config → CanHold old.header.geometry.max_members config → timestamp < 2 ^ 32
@@ -131,7 +119,7 @@ after_slots old true config timestamp holdings is spares can time entries notes 
     let fits : note_place geometry.max_members (length old.slots) ≤ record_size geometry = ltb-false (record_size geometry) (note_place geometry.max_members (length old.slots)) notes in
     slots_can geometry config holdings new_notes spare placed old.slots old.header.guid old.header.sequence (room_of old is) is.slots_can (record {
       elements = elements;
-      noted = λ k at. notes_can geometry config holdings placed (length old.slots) (sound_of old is) fits can.group can.sequence plans;
+      noted = λ k at. notes_can geometry config holdings placed (length old.slots) (is_sound old is) fits can.group can.sequence plans;
       spared = λ k at. spare_record_can old config timestamp is spares can time entries;
       listed = listed_noted geometry config holdings spare use_as placed old.slots placing;
     })
@@ -158,10 +146,10 @@ changed_slots old leaders config timestamp is change can =
     let holdings = map make (all_wanted config) in
     let use_as = spare_use config old.disk_data.reference in
     let geometry = old.header.geometry in
-    let elements = all_mapped (HasElement geometry) make (all_wanted config) (all_by_get (λ wanted. HasElement geometry (make wanted)) (all_wanted config) (λ n wanted at.
+    let elements = all_mapped (HasElement geometry) make (all_wanted config) (all_from (λ wanted. HasElement geometry (make wanted)) (all_wanted config) (λ n wanted at.
     changed_can config timestamp geometry old.header.revision (own_record old wanted) (leading_record leaders wanted.guid wanted.index) wanted (room_of old is)
     (given geometry.max_members config can.config_can change.readable n wanted at) can.timestamp_fits (can.capacities_fit n wanted at) (own_can old wanted is) (leading_can geometry leaders wanted can.leaders_can))) in
-    let plans = all_mapped (HasPlan geometry.max_members) make (all_wanted config) (all_by_get (λ wanted. FitsPlan geometry.max_members wanted) (all_wanted config) can.config_can.plans) in
+    let plans = all_mapped (HasPlan geometry.max_members) make (all_wanted config) (all_from (λ wanted. FitsPlan geometry.max_members wanted) (all_wanted config) can.config_can.plans) in
     let differ = items_differ true use_as holdings (made_apart config make change.names (changed_makes old leaders config timestamp)).differ in
     let placing = in_place old.header.guid old.header.sequence old.slots (items_of true use_as holdings) differ change.room.records in
     after_slots old true config timestamp holdings is change.spares can.config_can can.timestamp_fits can.entries_fit can.notes_fit elements plans (λ no. absurd (false≢true (sym no))) placing
@@ -171,7 +159,7 @@ pub changed_copy_can : (old : DiskCopy) (leaders : Before) (config : Configurati
     → CanBeCopy (changed_copy old leaders config timestamp)
 unfolding changed_copy view_of
 changed_copy_can old leaders config timestamp is change can =
-    let named = all_by_get (λ (entry : ℕ × Member). is_no_disk entry.0 ≡ false) config.members (λ i one at. change.spares.named i one at) in
+    let named = all_from (λ (entry : ℕ × Member). is_no_disk entry.0 ≡ false) config.members (λ i one at. change.spares.named i one at) in
     copy_can old true config timestamp (changed_disks config leaders.disks old.header.revision (view_of old).disks) (changed_holdings old leaders config timestamp) is can.config_can.group can.config_can.sequence
     (changed_disks_can old.header.geometry.max_disks old.disks config leaders.disks old.header.revision is.disks_can can.config_can.members change.room.disks named can.config_can.references)
     (arrays_can old.header.geometry.max_arrays old.arrays config is.arrays_can can.config_can.arrays change.room.arrays can.config_can.guids)

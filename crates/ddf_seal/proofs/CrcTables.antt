@@ -1,6 +1,6 @@
 -- The steps of the CRC are linear, so that sixteen bytes can be taken at once: each through its own table, and their sum is the
 -- register.
-use Rattle.std.proofs.Common.{◌≡◌, ℕ, ◌+◌, ◌*◌, ◌/◌, ◌%◌, ◌<◌, ◌^◌, ◌⊎◌, zero, suc, List, [], ◌∷◌, IsTrue, bit_xor, eqb, get_or, length, take, drop, fold, refl, sym, ◌∙◌, ap, arith, inl, inr}
+use Rattle.std.proofs.Common.{◌≡◌, ℕ, ◌+◌, ◌*◌, ◌/◌, ◌%◌, ◌<◌, ◌^◌, zero, suc, List, [], ◌∷◌, IsTrue, bit_xor, eqb, get_or, length, take, drop, fold, refl, sym, ◌∙◌, ap, arith, inl, inr}
 use Rattle.std.specs.Int.{w32, from_le_bytes}
 use Rattle.std.specs.Int.Bits.{xor_zero_l, xor_zero_r, xor_self, xor_assoc}
 use Rattle.std.specs.Simd.{first_chunks}
@@ -8,16 +8,13 @@ use Rattle.std.proofs.Math.Nat.{pow-succ', mul_assoc}
 use Rattle.std.proofs.Math.Seq.{take-add}
 use Rattle.std.proofs.lemmas.List.{take-append-drop}
 use Rattle.std.proofs.lemmas.List.Sums.{fold-append}
-use Rattle.std.proofs.lemmas.Bool.{eqb-true, cases_lt}
+use Rattle.std.proofs.lemmas.Bool.{eqb-true}
 use Rattle.std.proofs.lemmas.Nat.{xor_comm, xor_shr, xor_mod, xor_block}
+use Rattle.ddf_lemmas.proofs.Tests.{bit_cases, both_parts, turned}
 use Rattle.ddf_seal.specs.Crc.{bit_step, bit_steps, byte_step, are_entries}
 use Rattle.ddf_seal.specs.Unread.{AreBytes}
-use Rattle.ddf_seal.proofs.Same.{both_true}
 
 -- ---- a step of a sum is the sum of the steps
-
-turned : (x y z : ℕ) → bit_xor (bit_xor x y) z ≡ bit_xor (bit_xor x z) y
-turned x y z = xor_assoc x y z ∙ ap (bit_xor x) (xor_comm y z) ∙ sym (xor_assoc x z y)
 
 twice : (x y p : ℕ) → bit_xor (bit_xor x p) (bit_xor y p) ≡ bit_xor x y
 twice x y p =
@@ -29,21 +26,18 @@ back_to_front w x y z =
     xor_comm (bit_xor (bit_xor w x) y) z ∙ ap (bit_xor z) (xor_comm (bit_xor w x) y) ∙ sym (xor_assoc z y (bit_xor w x))
     ∙ ap (bit_xor (bit_xor z y)) (xor_comm w x) ∙ sym (xor_assoc (bit_xor z y) x w)
 
-parity : (x : ℕ) → (x % 2 ≡ 0) ⊎ (x % 2 ≡ 1)
-parity x = elim (cases_lt (x % 2) 1) [ inl lt ↦ inl (omega arith) | inr le ↦ inr (omega arith) ]
-
 even : (x : ℕ) → x % 2 ≡ 0 → bit_step x ≡ x / 2
 even x e = rw e refl
 
 odd : (x : ℕ) → x % 2 ≡ 1 → bit_step x ≡ bit_xor (x / 2) 0xEDB8_8320
 odd x e = rw e refl
 
-bit_step-xor : (a b : ℕ) → bit_step (bit_xor a b) ≡ bit_xor (bit_step a) (bit_step b)
+pub bit_step-xor : (a b : ℕ) → bit_step (bit_xor a b) ≡ bit_xor (bit_step a) (bit_step b)
 bit_step-xor a b =
     let half = xor_shr a b 1 in
     let low = xor_mod a b 1 in
-    elim (parity a) [
-      | inl even_a ↦ elim (parity b) [
+    elim (bit_cases a) [
+      | inl even_a ↦ elim (bit_cases b) [
         | inl even_b ↦
             let out : bit_xor a b % 2 ≡ 0 = low ∙ rw (even_a, even_b) refl in
             even (bit_xor a b) out ∙ half ∙ sym (rw (even a even_a, even b even_b) refl)
@@ -52,7 +46,7 @@ bit_step-xor a b =
             odd (bit_xor a b) out ∙ ap (λ h. bit_xor h 0xEDB8_8320) half ∙ xor_assoc (a / 2) (b / 2) 0xEDB8_8320
             ∙ sym (rw (even a even_a, odd b odd_b) refl)
       ]
-      | inr odd_a ↦ elim (parity b) [
+      | inr odd_a ↦ elim (bit_cases b) [
         | inl even_b ↦
             let out : bit_xor a b % 2 ≡ 1 = low ∙ rw (odd_a, even_b) refl in
             odd (bit_xor a b) out ∙ ap (λ h. bit_xor h 0xEDB8_8320) half ∙ turned (a / 2) (b / 2) 0xEDB8_8320
@@ -64,12 +58,12 @@ bit_step-xor a b =
       ]
     ]
 
-bit_steps-xor : (count a b : ℕ) → bit_steps count (bit_xor a b) ≡ bit_xor (bit_steps count a) (bit_steps count b)
+pub bit_steps-xor : (count a b : ℕ) → bit_steps count (bit_xor a b) ≡ bit_xor (bit_steps count a) (bit_steps count b)
 unfolding bit_steps
 bit_steps-xor zero a b = refl
 bit_steps-xor (suc count) a b = ap (bit_steps count) (bit_step-xor a b) ∙ bit_steps-xor count (bit_step a) (bit_step b)
 
-bit_steps-add : (m n x : ℕ) → bit_steps (m + n) x ≡ bit_steps n (bit_steps m x)
+pub bit_steps-add : (m n x : ℕ) → bit_steps (m + n) x ≡ bit_steps n (bit_steps m x)
 unfolding bit_steps
 bit_steps-add zero n x = let none : 0 + n ≡ n = omega arith in ap (λ k. bit_steps k x) none
 bit_steps-add (suc m) n x =
@@ -159,11 +153,11 @@ entry_is : (first : ℕ) (entries : List ℕ) (i : ℕ) → IsTrue (are_entries 
     → get_or entries i 0 ≡ bit_steps (8 * ((first + i) / 256 + 1)) ((first + i) % 256)
 entry_is first [] i are lt = absurd (omega arith)
 entry_is first (entry ∷ entries) zero are lt =
-    let parts = both_true (eqb entry (bit_steps (8 * (first / 256 + 1)) (first % 256))) (are_entries (suc first) entries) are in
+    let parts = both_parts (eqb entry (bit_steps (8 * (first / 256 + 1)) (first % 256))) (are_entries (suc first) entries) are in
     let here : first ≡ first + 0 = omega arith in
     eqb-true entry (bit_steps (8 * (first / 256 + 1)) (first % 256)) parts.0 ∙ ap (λ k. bit_steps (8 * (k / 256 + 1)) (k % 256)) here
 entry_is first (entry ∷ entries) (suc i) are lt =
-    let parts = both_true (eqb entry (bit_steps (8 * (first / 256 + 1)) (first % 256))) (are_entries (suc first) entries) are in
+    let parts = both_parts (eqb entry (bit_steps (8 * (first / 256 + 1)) (first % 256))) (are_entries (suc first) entries) are in
     let next : suc first + i ≡ first + suc i = omega arith in
     entry_is (suc first) entries i parts.1 (omega arith) ∙ ap (λ k. bit_steps (8 * (k / 256 + 1)) (k % 256)) next
 

@@ -5,3 +5,4 @@ pub mod Same
 pub mod Spelled
 pub mod Records
 pub mod Seals
+pub mod Common

@@ -3,6 +3,7 @@ use Rattle.std.proofs.Common.{◌≡◌, ℕ, ◌+◌, ◌<◌, ◌≤◌, ◌�
 use Rattle.std.specs.List.{AllByRecursion, list_all}
 use Rattle.std.specs.Int.{w32, to_be_bytes}
 use Rattle.std.proofs.lemmas.Bool.{leb-true}
+use Rattle.ddf_lemmas.proofs.Tests.{both_parts}
 use Rattle.ddf_seal.specs.declared.unread.Span.{Span}
 use Rattle.ddf_seal.specs.declared.sealing.TheConstants.{SIGNATURE_AT, CRC_AT}
 use Rattle.ddf_seal.specs.Crc.{crc_of}
@@ -10,7 +11,7 @@ use Rattle.ddf_seal.specs.Seal.{IsSealed, sealed, record_crc, seal_place}
 use Rattle.ddf_seal.specs.Unread.{Field, place_of, places, bytes_of, Stands, Fits, AreBytes, placed, written, cleared}
 use Rattle.ddf_seal.specs.Records.{IsRowOf, IsRecordOf, IsRow, IsRecord, record_bytes}
 use Rattle.ddf_seal.proofs.Placing.{length-bytes_at}
-use Rattle.ddf_seal.proofs.Same.{IsOutside, IsOutsideAll, AreWithin, both_true, SameAt, SameAt-then, SameAt-fewer, SameAt-all, placed_outside, placed_same, placed_again, bytes_at-placed, bytes_at-same, cleared_outside, cleared_same, cleared-cleared}
+use Rattle.ddf_seal.proofs.Same.{IsOutside, IsOutsideAll, AreWithin, SameAt, SameAt-then, SameAt-fewer, SameAt-all, placed_outside, placed_same, placed_again, bytes_at-placed, bytes_at-same, cleared_outside, cleared_same, cleared-cleared}
 use Rattle.ddf_seal.proofs.Spelled.{IsSpelled, all_spelled_from_stands, all_stand_from_spelled, all_fit_from_stand, length-bytes_of}
 
 -- ---- from the bytes to the value and back
@@ -88,7 +89,7 @@ either_true false b h = inr h
 apart_from_one : (span : Span) (spans : List Span) → IsTrue (list_all (is_apart span) spans) → AllByRecursion (AreApart span) spans
 apart_from_one span [] h = tt
 apart_from_one span (other ∷ spans) h =
-    let parts = both_true (is_apart span other) (list_all (is_apart span) spans) h in (
+    let parts = both_parts (is_apart span other) (list_all (is_apart span) spans) h in (
       elim (either_true (leb (span.at + span.length) other.at) (leb (other.at + other.length) span.at) parts.0) [
         | inl le ↦ inl (leb-true (span.at + span.length) other.at le)
         | inr le ↦ inr (leb-true (other.at + other.length) span.at le)
@@ -99,7 +100,7 @@ apart_from_one span (other ∷ spans) h =
 pub apart_from_test : (spans : List Span) → IsTrue (are_apart spans) → AreAllApart spans
 apart_from_test [] h = tt
 apart_from_test (span ∷ spans) h =
-    let parts = both_true (list_all (is_apart span) spans) (are_apart spans) h in
+    let parts = both_parts (list_all (is_apart span) spans) (are_apart spans) h in
     (apart_from_one span spans parts.0, apart_from_test spans parts.1)
 
 outside_one : (a b : Span) (i : ℕ) → AreApart a b → a.at ≤ i → i < a.at + a.length → IsOutside b i

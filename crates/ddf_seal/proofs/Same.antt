@@ -1,8 +1,9 @@
 -- Lists of bytes that are the same at the indices of a set, and what placing and clearing make of it.
-use Rattle.std.proofs.Common.{◌≡◌, ℕ, ◌+◌, ◌-◌, ◌<◌, ◌≤◌, ◌⊎◌, Bool, true, false, ◌&&◌, IsTrue, List, [], ◌∷◌, ◌++◌, length, get_or, take, drop, replicate, refl, sym, ◌∙◌, ap, subst, arith, inl, inr, leb}
+use Rattle.std.proofs.Common.{◌≡◌, ℕ, ◌+◌, ◌-◌, ◌<◌, ◌≤◌, ◌⊎◌, IsTrue, List, [], ◌∷◌, ◌++◌, length, get_or, take, drop, replicate, refl, sym, ◌∙◌, ap, subst, arith, inl, inr, leb}
 use Rattle.std.specs.List.{list_all}
-use Rattle.std.proofs.lemmas.Bool.{cases_lt, leb-true, false≢true}
+use Rattle.std.proofs.lemmas.Bool.{cases_lt, leb-true}
 use Rattle.std.proofs.lemmas.List.{length-replicate, ext_get_or, get_or_append_left, get_or-append_right, length-append, take-append-drop, append_assoc}
+use Rattle.ddf_lemmas.proofs.Tests.{both_parts}
 use Rattle.ddf_bytes.specs.Bytes.{bytes_at, with_bytes_at}
 use Rattle.ddf_seal.specs.declared.unread.Span.{Span}
 use Rattle.ddf_seal.specs.Unread.{placed, cleared, cleared_one, is_within}
@@ -162,15 +163,11 @@ cleared_same (span ∷ spans) P a b within h =
     let kept = placed_outside b span zeros (length-replicate span.length 0) within.0 in
     cleared_same spans P (cleared_one a span) (cleared_one b span) (subst (λ n. AreWithin n spans) (sym kept.size) within.1) one
 
-pub both_true : (a b : Bool) → IsTrue (a && b) → IsTrue a × IsTrue b
-both_true true b h = (refl, h)
-both_true false b h = absurd (false≢true h)
-
 -- from the test that the code's contract names
 pub within_from_test : (size : ℕ) (spans : List Span) → IsTrue (list_all (is_within size) spans) → AreWithin size spans
 within_from_test size [] h = tt
 within_from_test size (span ∷ spans) h =
-    let parts = both_true (leb (span.at + span.length) size) (list_all (is_within size) spans) h in
+    let parts = both_parts (leb (span.at + span.length) size) (list_all (is_within size) spans) h in
     (leb-true (span.at + span.length) size parts.0, within_from_test size spans parts.1)
 
 -- bytes that are cleared stay so when they are cleared again

@@ -30,7 +30,7 @@ four (suc (suc zero)) = omega arith
 four (suc (suc (suc zero))) = omega arith
 four (suc (suc (suc (suc i)))) = omega arith
 
-AreBytes-placed : (bytes : List ℕ) (at : ℕ) (new : List ℕ) → at + length new ≤ length bytes → AreBytes bytes → AreBytes new → AreBytes (placed bytes at new)
+pub AreBytes-placed : (bytes : List ℕ) (at : ℕ) (new : List ℕ) → at + length new ≤ length bytes → AreBytes bytes → AreBytes new → AreBytes (placed bytes at new)
 AreBytes-placed bytes at new within fits fit i =
     elim (cases_lt i at) [
       | inl lt ↦ rw (get_or-placed_below bytes at new i 0 within lt) (fits i)

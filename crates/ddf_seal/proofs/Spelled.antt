@@ -3,9 +3,10 @@ use Rattle.std.proofs.Common.{◌≡◌, ℕ, zero, suc, ◌+◌, ◌<◌, ◌�
 use Rattle.std.specs.List.{AllByRecursion, flat_map}
 use Rattle.std.specs.Int.{w16, w32, w64, to_be_bytes, from_be_bytes}
 use Rattle.std.proofs.lemmas.Bool.{cases_lt}
-use Rattle.std.proofs.lemmas.List.{drop_more, get_or_past, drop-drop, take_at, drop_at, length-append}
+use Rattle.std.proofs.lemmas.List.{drop_more, get_or_past, drop-drop, length-append}
 use Rattle.std.proofs.Math.Seq.{take-add}
 use Rattle.std.proofs.lemmas.Nat.{be_bytes_2, be_bytes_4, be_bytes_8, from_be_bytes-to_be_bytes_2, from_be_bytes-to_be_bytes_4, from_be_bytes-to_be_bytes_8}
+use Rattle.ddf_lemmas.proofs.Lists.{append_parts}
 use Rattle.ddf_bytes.specs.Bytes.{bytes_at, number_at}
 use Rattle.ddf_seal.specs.Unread.{Field, u8_at, u16_at, u32_at, u64_at, u32s_at, u64s_at, plain_at, numbers32_at, numbers64_at, place_of, places, bytes_of, Stands, Fits, AreBytes}
 use Rattle.ddf_seal.proofs.Placing.{length-bytes_at, get_or-bytes_at}
@@ -22,7 +23,7 @@ AreBytes-bytes_at bytes at size within fits i =
       | inr le ↦ rw (get_or_past (bytes_at bytes at size) i 0 (omega (arith, length-bytes_at bytes at size within))) (omega arith)
     ]
 
-bytes_at-append : (bytes : List ℕ) (at m n : ℕ) → bytes_at bytes at (m + n) ≡ bytes_at bytes at m ++ bytes_at bytes (at + m) n
+pub bytes_at-append : (bytes : List ℕ) (at m n : ℕ) → bytes_at bytes at (m + n) ≡ bytes_at bytes at m ++ bytes_at bytes (at + m) n
 bytes_at-append bytes at m n = take-add m n (drop at bytes) ∙ ap (λ l. take m (drop at bytes) ++ take n l) (drop-drop m at bytes)
 
 numbers_spelled : (bytes : List ℕ) (at count : ℕ) → AreBytes bytes → at + 4 * count ≤ length bytes → bytes_at bytes at (4 * count) ≡ flat_map (to_be_bytes w32) (numbers32_at bytes at count)
@@ -56,12 +57,6 @@ length-numbers64 [] = refl
 length-numbers64 (value ∷ values) =
     let rest = length-numbers64 values in
     omega (arith, length-append (to_be_bytes w64 value) (flat_map (to_be_bytes w64) values), rest)
-
-append_parts : (a b c d : List ℕ) → length a ≡ length c → a ++ b ≡ c ++ d → (a ≡ c) × (b ≡ d)
-append_parts a b c d len e =
-    let first : a ≡ c = sym (take_at a b (length a) refl) ∙ ap (take (length a)) e ∙ take_at c d (length a) (sym len) in
-    let second : b ≡ d = sym (drop_at a b (length a) refl) ∙ ap (drop (length a)) e ∙ drop_at c d (length a) (sym len) in
-    (first, second)
 
 numbers_stand : (bytes : List ℕ) (at : ℕ) (values : List ℕ) → at + 4 * length values ≤ length bytes → AllByRecursion (λ value. value < 2 ^ 32) values
     → bytes_at bytes at (4 * length values) ≡ flat_map (to_be_bytes w32) values → numbers32_at bytes at (length values) ≡ values

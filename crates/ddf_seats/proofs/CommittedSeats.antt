@@ -1,8 +1,9 @@
 -- The disks of a group's seats, before a step was written to them and behind it.
-use Rattle.std.proofs.Common.{◌≡◌, ℕ, zero, suc, ◌<◌, List, [], ◌∷◌, length, Option, Some, None, refl, ap, subst, arith}
+use Rattle.std.proofs.Common.{◌≡◌, ℕ, zero, suc, ◌<◌, List, [], ◌∷◌, Option, Some, None, refl, ap, subst, arith}
 use Rattle.std.specs.Prelude.{filter_map, option_map, slice_get}
 use Rattle.std.specs.Option.{option_and_then}
 use Rattle.std.specs.List.{AllByRecursion, cons_option}
+use Rattle.ddf_lemmas.proofs.Lists.{in_map, mapped_at}
 use Rattle.ddf_config.specs.declared.seat.Seat.{Seat}
 use Rattle.ddf_copy.specs.declared.copy.DiskCopy.{DiskCopy}
 use Rattle.ddf_copy.specs.declared.newest_copy.Newest.{Newest}
@@ -11,7 +12,7 @@ use Rattle.ddf_copy.specs.Shows.{last_of}
 use Rattle.ddf_update.specs.declared.prepared.Mode.TheVariants.{Change}
 use Rattle.ddf_seats.specs.declared.seated.Seated.{Seated}
 use Rattle.ddf_seats.specs.Group.{GroupValue}
-use Rattle.ddf_rewrite.proofs.Lists.{all_at, get_map, map_get}
+use Rattle.ddf_rewrite.proofs.Lists.{all_at}
 use Rattle.ddf_seats.specs.Seated.{seated, seated_at, seated_by, seats_in, slots_in}
 use Rattle.ddf_seats.specs.Changing.{SlotsRise}
 
@@ -64,27 +65,22 @@ seated_is group k disk at =
 
 -- ---- slots that rise
 
-pub get_there : {X : Type 0} (xs : List X) (i : ℕ) → i < length xs → (x : X) × (slice_get xs i ≡ Some x)
-get_there [] i below = absurd (omega (arith, below))
-get_there (x ∷ xs) zero below = (x, refl)
-get_there (x ∷ xs) (suc i) below = get_there xs i (omega (arith, below))
-
 -- A later disk is on a greater slot.
 pub rise_later : (disk : Seated) (disks : List Seated) → AllByRecursion (λ (other : Seat). disk.seat.slot < other.slot) (seats_in disks)
     → (k : ℕ) (other : Seated) → slice_get disks k ≡ Some other → disk.seat.slot < other.seat.slot
 rise_later disk disks rise k other at =
-    all_at (λ (seat : Seat). disk.seat.slot < seat.slot) (seats_in disks) k other.seat rise (get_map (λ (one : Seated). one.seat) disks k other at)
+    all_at (λ (seat : Seat). disk.seat.slot < seat.slot) (seats_in disks) k other.seat rise (mapped_at (λ (one : Seated). one.seat) disks k other at)
 
 -- each slot is that of one disk
 pub rise_differ : (disks : List Seated) → SlotsRise (seats_in disks) → (i j slot : ℕ) → slice_get (slots_in disks) i ≡ Some slot → slice_get (slots_in disks) j ≡ Some slot → i ≡ j
 rise_differ [] rise i j slot at also = absurd cc
 rise_differ (disk ∷ disks) rise zero zero slot at also = refl
 rise_differ (disk ∷ disks) rise zero (suc j) slot at also =
-    let found = map_get (λ (one : Seated). one.seat.slot) disks j slot also in
+    let found = in_map (λ (one : Seated). one.seat.slot) disks j slot also in
     let here : disk.seat.slot ≡ slot = cc in
     absurd (omega (arith, rise_later disk disks rise.0 j found.0 found.1, found.2, here))
 rise_differ (disk ∷ disks) rise (suc i) zero slot at also =
-    let found = map_get (λ (one : Seated). one.seat.slot) disks i slot at in
+    let found = in_map (λ (one : Seated). one.seat.slot) disks i slot at in
     let here : disk.seat.slot ≡ slot = cc in
     absurd (omega (arith, rise_later disk disks rise.0 i found.0 found.1, found.2, here))
 rise_differ (disk ∷ disks) rise (suc i) (suc j) slot at also = ap suc (rise_differ disks rise.1 i j slot at also)

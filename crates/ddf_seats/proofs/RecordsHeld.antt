@@ -3,9 +3,6 @@ use Rattle.std.proofs.Common.{◌≡◌, List, [], ◌∷◌, map, refl, ap, sub
 use Rattle.std.specs.List.{AllByRecursion}
 use Rattle.ddf_header.specs.declared.geometry.Geometry.{Geometry}
 use Rattle.ddf_header.specs.Geometry.{IsSound}
-use Rattle.ddf_header.proofs.Sound.{sound}
-use Rattle.ddf_copy.specs.declared.copy.DiskCopy.{DiskCopy}
-use Rattle.ddf_copy.specs.Written.{CanBeCopy}
 use Rattle.ddf_view.specs.View.{View, view_of}
 use Rattle.ddf_rewrite.specs.Before.{before}
 use Rattle.ddf_rewrite.specs.Hold.{AreHeld, IsLeader}
@@ -13,9 +10,6 @@ use Rattle.ddf_rewrite.proofs.Leaders.{leaders_held}
 use Rattle.ddf_seats.specs.declared.seated.Seated.{Seated}
 use Rattle.ddf_seats.specs.Seated.{views_in}
 use Rattle.ddf_seats.specs.Changing.{AreCopies, HaveLength}
-
-pub sound_of : (copy : DiskCopy) → CanBeCopy copy → IsSound copy.header.geometry
-sound_of copy is = sound copy.header.geometry is.header_can.is_header.has_geometry
 
 pub leaders_all : (geometry : Geometry) (disks : List Seated) → AreCopies disks → HaveLength geometry.record_length disks → AllByRecursion (IsLeader geometry) (map (λ (disk : Seated). disk.copy) disks)
 leaders_all geometry [] are same = tt

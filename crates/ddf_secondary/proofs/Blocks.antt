@@ -7,10 +7,10 @@ use Rattle.std.proofs.lemmas.List.{length-map, at_drop_more, at_drop_all}
 use Rattle.std.proofs.lemmas.List.FromFn.{length-range_with_len}
 use Rattle.std.proofs.lemmas.List.Sums.{sum_by-cons}
 use Rattle.std.proofs.lemmas.Option.{slice_get-map, slice_get_within, same_Some, none-some, slice_get-get_or}
+use Rattle.ddf_lemmas.proofs.Lists.{slice_get-append_left, slice_get-append_right, slice_get-range}
 use Rattle.ddf_secondary.specs.declared.element.ElementSize.{ElementSize}
 use Rattle.ddf_secondary.specs.declared.spot.Spot.{Spot}
 use Rattle.ddf_secondary.specs.Spots.{blocks, one_after_another}
-use Rattle.ddf_secondary.proofs.Lists.{slice_get-range, slice_get-append_left, slice_get-append_right}
 
 pub length-blocks : (first count element : ℕ) → length (blocks first count element) ≡ count
 length-blocks first count element =

@@ -1,15 +1,7 @@
 -- A number by its row, its place in the row and its offset in the place.
-use Rattle.std.proofs.Common.{◌≡◌, ℕ, zero, suc, ◌+◌, ◌*◌, ◌/◌, ◌%◌, ◌<◌, arith}
-use Rattle.std.proofs.lemmas.Nat.{div-add-mod', mod_below, div_below}
-
-pub factor_pos : (a b n : ℕ) → n < a * b → 0 < b
-factor_pos a zero n below = absurd (omega arith)
-factor_pos a (suc b) n below = omega arith
-
-pub place_splits : (block unit elements : ℕ) → block ≡ (block / unit / elements * elements + block / unit % elements) * unit + block % unit
-place_splits block unit elements =
-    let count = div-add-mod' (block / unit) elements in
-    rw count (omega (arith, div-add-mod' block unit))
+use Rattle.std.proofs.Common.{ℕ, ◌*◌, ◌/◌, ◌%◌, ◌<◌, arith}
+use Rattle.std.proofs.lemmas.Nat.{mod_below, div_below}
+use Rattle.ddf_lemmas.proofs.Tests.{factor_pos}
 
 pub offset_within : (block unit elements rows : ℕ) → block < rows * elements * unit → block % unit < unit
 offset_within block unit elements rows below = mod_below block unit (factor_pos (rows * elements) unit block below)

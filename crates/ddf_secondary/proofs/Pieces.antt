@@ -3,7 +3,7 @@ use Rattle.std.proofs.Common.{◌≡◌, ℕ, zero, suc, ◌+◌, ◌-◌, ◌<�
 use Rattle.std.specs.List.{flat_map}
 use Rattle.std.proofs.lemmas.Bool.{cases_lt}
 use Rattle.std.proofs.lemmas.Option.{none-some, same_Some}
-use Rattle.ddf_secondary.proofs.Lists.{slice_get-append_left, slice_get-append_right}
+use Rattle.ddf_lemmas.proofs.Lists.{slice_get-append_left, slice_get-append_right}
 
 module _ {X A : Type 0} (f : X → List A) where
   pub piece_at : (xs : List X) (i j : ℕ) (x : X) → slice_get xs i ≡ Some x → j < length (f x) → slice_get (flat_map f xs) (length (flat_map f (take i xs)) + j) ≡ slice_get (f x) j

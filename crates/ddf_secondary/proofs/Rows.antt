@@ -5,9 +5,10 @@ use Rattle.std.proofs.lemmas.List.{length-take-le}
 use Rattle.std.proofs.lemmas.List.FromFn.{length-range_with_len}
 use Rattle.std.proofs.lemmas.Nat.{mul-add-lt, div-mul-add, mod-mul-add, div-add-mod', mod_below}
 use Rattle.std.proofs.lemmas.Option.{slice_get_within, same_Some}
+use Rattle.ddf_lemmas.proofs.Lists.{slice_get-range}
 use Rattle.ddf_secondary.specs.declared.spot.Spot.{Spot}
 use Rattle.ddf_secondary.specs.Spots.{row_blocks, by_rows}
-use Rattle.ddf_secondary.proofs.Lists.{slice_get-range, length-pieces, slice_get-pieces}
+use Rattle.ddf_secondary.proofs.Lists.{length-pieces, slice_get-pieces}
 use Rattle.ddf_secondary.proofs.Blocks.{length-blocks, slice_get-blocks, blocks_inverse}
 use Rattle.ddf_secondary.proofs.Pieces.{piece_at, piece_inverse}
 

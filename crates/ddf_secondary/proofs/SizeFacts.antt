@@ -1,24 +1,12 @@
 -- Facts of the sizes of an array's elements.
-use Rattle.std.proofs.Common.{◌≡◌, ℕ, zero, suc, ◌+◌, ◌<◌, ◌≤◌, Bool, true, false, ◌&&◌, nat_lt, ◌==◌, List, [], ◌∷◌, length, get_or, min, Some, slice_get, ⊎_elim, refl, sym, ap, ◌∙◌, arith}
+use Rattle.std.proofs.Common.{◌≡◌, ℕ, zero, suc, ◌+◌, ◌<◌, ◌≤◌, true, ◌&&◌, nat_lt, ◌==◌, List, [], ◌∷◌, length, get_or, min, Some, slice_get, ⊎_elim, refl, sym, ap, ◌∙◌, arith}
 use Rattle.std.specs.List.{list_all}
 use Rattle.std.proofs.lemmas.Bool.{cases_lt, and_parts, and_from, ltb-true, eqb-true, eq-eqb, lt-ltb}
 use Rattle.std.proofs.lemmas.Option.{none-some, same_Some, slice_get_within, slice_get-get_or, get_or_from_slice_get}
+use Rattle.std.specs.Cmp.Derive.{one_truth}
+use Rattle.ddf_lemmas.proofs.Lists.{list_all_from, list_all_read}
 use Rattle.ddf_secondary.specs.declared.element.ElementSize.{ElementSize}
 use Rattle.ddf_secondary.specs.Sizes.{least_of, greatest_of, unit_of, share_a_unit}
-
-pub list_all_read : {X : Type 0} (p : X → Bool) (xs : List X) (k : ℕ) (x : X) → list_all p xs ≡ true → slice_get xs k ≡ Some x → p x ≡ true
-list_all_read p [] k x all at_k = absurd (none-some x at_k)
-list_all_read p (y ∷ ys) zero x all at_k = ap p (sym (same_Some y x at_k)) ∙ (and_parts (p y) (list_all p ys) all).0
-list_all_read p (y ∷ ys) (suc k) x all at_k = list_all_read p ys k x ((and_parts (p y) (list_all p ys) all).1) at_k
-
-pub list_all_from : {X : Type 0} (p : X → Bool) (xs : List X) → ((k : ℕ) (x : X) → slice_get xs k ≡ Some x → p x ≡ true) → list_all p xs ≡ true
-list_all_from p [] each = refl
-list_all_from p (y ∷ ys) each = and_from (p y) (list_all p ys) (each 0 y refl) (list_all_from p ys (λ k x at_k. each (suc k) x at_k))
-
-pub both_true : (a b : Bool) → (a ≡ true → b ≡ true) → (b ≡ true → a ≡ true) → a ≡ b
-both_true true b f g = sym (f refl)
-both_true false true f g = g refl
-both_true false false f g = refl
 
 -- no two units differ, and none is 0: the first isn't 0, and all others are as it
 pub units_are_as_the_first : (sizes : List ElementSize) → share_a_unit sizes ≡ true → (k : ℕ) (size : ElementSize) → slice_get sizes k ≡ Some size → size.unit ≡ unit_of sizes
@@ -44,7 +32,7 @@ share_from_first sizes some same =
 
 pub share_is : (sizes : List ElementSize) → 0 < length sizes → 0 < unit_of sizes → list_all (λ (size : ElementSize). size.unit == unit_of sizes) sizes ≡ share_a_unit sizes
 share_is sizes some unit =
-    both_true _ _
+    one_truth _ _
     (λ all. share_from_first sizes unit (λ k size at_k. eqb-true size.unit (unit_of sizes) (list_all_read (λ (s : ElementSize). s.unit == unit_of sizes) sizes k size all at_k)))
     (λ share. list_all_from (λ (s : ElementSize). s.unit == unit_of sizes) sizes (λ k size at_k. eq-eqb size.unit (unit_of sizes) (units_are_as_the_first sizes share k size at_k)))
 

@@ -1,5 +1,5 @@
 -- The spots of spanned tiers.
-use Rattle.std.proofs.Common.{◌≡◌, ℕ, zero, suc, ◌+◌, ◌-◌, ◌*◌, ◌/◌, ◌%◌, ◌^◌, ◌<◌, ◌≤◌, ◌↔◌, ◌⊎◌, inl, inr, List, [], ◌∷◌, ◌++◌, length, get_or, take, Some, slice_get, ⊎_elim, refl, sym, ap, ◌∙◌, zero-add, add-zero, arith, length-append}
+use Rattle.std.proofs.Common.{◌≡◌, ℕ, zero, suc, ◌+◌, ◌-◌, ◌*◌, ◌/◌, ◌%◌, ◌^◌, ◌<◌, ◌≤◌, ◌↔◌, ◌⊎◌, inl, inr, List, [], ◌∷◌, ◌++◌, length, get_or, take, Some, slice_get, ⊎_elim, refl, sym, ap, ◌∙◌, zero-add, arith, length-append}
 use Rattle.std.specs.List.{range_with_len, flat_map, sum_by}
 use Rattle.std.proofs.lemmas.Bool.{cases_lt}
 use Rattle.std.proofs.lemmas.List.{append-nil}
@@ -7,23 +7,18 @@ use Rattle.std.proofs.lemmas.List.Concat.{flat_map-append}
 use Rattle.std.proofs.lemmas.List.Sums.{sum_by-cons, sum_by-le}
 use Rattle.std.proofs.lemmas.Nat.{mul-le, mul-add-lt, div_below, mod_below, div-add-mod'}
 use Rattle.std.proofs.lemmas.Option.{slice_get_within, slice_get-get_or}
+use Rattle.ddf_lemmas.proofs.Lists.{range_next}
+use Rattle.ddf_lemmas.proofs.Tests.{factor_pos}
 use Rattle.ddf_secondary.specs.declared.element.ElementSize.{ElementSize}
 use Rattle.ddf_secondary.specs.declared.level.SecondaryLevel.TheVariants.{Spanned}
 use Rattle.ddf_secondary.specs.declared.spot.Spot.{Spot}
 use Rattle.ddf_secondary.specs.Sizes.{greatest_of, unit_of}
 use Rattle.ddf_secondary.specs.Arrangement.{IsArray}
 use Rattle.ddf_secondary.specs.Spots.{longer_from, spots_by, size_of}
-use Rattle.ddf_secondary.proofs.Divide.{factor_pos}
 use Rattle.ddf_secondary.proofs.Rows.{units_to, length-by_rows, row_at, row_block}
 use Rattle.ddf_secondary.proofs.SizeFacts.{unit_is_some, greatest_ge}
 use Rattle.ddf_secondary.proofs.ArrayFacts.{spanned_share, rows_small}
 use Rattle.ddf_secondary.proofs.Longer.{before, all_rows, before_none, before_band, before_all, longer_at, longer_place, longer_apart, none_longer}
-
-range_more : (a n : ℕ) → range_with_len a (suc n) ≡ range_with_len a n ++ (a + n) ∷ []
-range_more a zero = ap (λ x. x ∷ []) (sym (add-zero a))
-range_more a (suc n) =
-    let same : a + 1 + n ≡ a + suc n = omega arith in
-    ap (λ rest. a ∷ rest) (range_more (a + 1) n ∙ ap (λ x. range_with_len (a + 1) n ++ x ∷ []) same)
 
 -- no element ends within one row
 one_row : (sizes : List ElementSize) (row k : ℕ) (size : ElementSize) → slice_get sizes k ≡ Some size → (size.rows ≤ row) ⊎ (row + 1 ≤ size.rows)
@@ -35,7 +30,7 @@ units_to_longer sizes (suc row) =
     let band = before_band 0 row (row + 1) (row + 1) sizes (one_row sizes row) (omega arith) (omega arith) (omega arith) in
     let one : row + 1 - row ≡ 1 = omega arith in
     let next : row + 1 ≡ suc row = omega arith in
-    ap (λ rows. length (flat_map (longer_from 0 sizes) rows)) (range_more 0 row)
+    ap (λ rows. length (flat_map (longer_from 0 sizes) rows)) (range_next 0 row)
     ∙ ap length (flat_map-append (longer_from 0 sizes) (range_with_len 0 row) ((0 + row) ∷ []))
     ∙ length-append (flat_map (longer_from 0 sizes) (range_with_len 0 row)) (longer_from 0 sizes (0 + row) ++ [])
     ∙ rw (append-nil, zero-add) (omega (arith, units_to_longer sizes row, rw (one, next) at band))

@@ -4,14 +4,16 @@ use Rattle.std.specs.List.{range_with_len}
 use Rattle.std.proofs.lemmas.List.FromFn.{length-range_with_len}
 use Rattle.std.proofs.lemmas.Nat.{div_below, mul-le}
 use Rattle.std.proofs.lemmas.Option.{slice_get_within}
+use Rattle.ddf_lemmas.proofs.Lists.{slice_get-range}
+use Rattle.ddf_lemmas.proofs.Tests.{place_in_strips}
 use Rattle.ddf_secondary.specs.declared.element.ElementSize.{ElementSize}
 use Rattle.ddf_secondary.specs.declared.level.SecondaryLevel.TheVariants.{Striped}
 use Rattle.ddf_secondary.specs.declared.spot.Spot.{Spot}
 use Rattle.ddf_secondary.specs.Sizes.{least_of, unit_of}
 use Rattle.ddf_secondary.specs.Arrangement.{IsArray}
 use Rattle.ddf_secondary.specs.Spots.{every_element, spots_by}
-use Rattle.ddf_secondary.proofs.Lists.{slice_get-range, length-pieces}
-use Rattle.ddf_secondary.proofs.Divide.{place_splits, offset_within, number_within, row_within}
+use Rattle.ddf_secondary.proofs.Lists.{length-pieces}
+use Rattle.ddf_secondary.proofs.Divide.{offset_within, number_within, row_within}
 use Rattle.ddf_secondary.proofs.Rows.{in_range, units_to, length-by_rows, row_at, row_block}
 use Rattle.ddf_secondary.proofs.SizeFacts.{unit_is_some}
 use Rattle.ddf_secondary.proofs.ArrayFacts.{striped_share, least_small}
@@ -44,7 +46,7 @@ striped_spot sizes block below =
     let row = block / unit / elements in
     let element = block / unit % elements in
     let split : block ≡ (units_to (every_element sizes) row + element) * unit + block % unit =
-    rw (units_to_every sizes row) (place_splits block unit elements) in
+    rw (units_to_every sizes row) (place_in_strips block unit elements) in
     ap (slice_get (spots_by Striped sizes)) split
     ∙ row_at (every_element sizes) unit rows row element element (block % unit) (every_at sizes row element (number_within block unit elements rows inside)) (offset_within block unit elements rows inside) (row_within block unit elements rows inside)
 

@@ -1,6 +1,7 @@
 -- The list of spots at a level that is known.
 use Rattle.std.proofs.Common.{◌≡◌, ◌⊎◌, ⊎_elim, ℕ, ◌<◌, ◌≤◌, ◌↔◌, List, length, get_or, Option, None, Some, slice_get, subst, sym, ap, ◌∙◌, zero-add, arith}
-use Rattle.std.proofs.lemmas.Option.{none-some, same_Some}
+use Rattle.std.proofs.lemmas.Option.{none-some}
+use Rattle.ddf_lemmas.proofs.Options.{some_block}
 use Rattle.ddf_secondary.specs.declared.element.ElementSize.{ElementSize}
 use Rattle.ddf_secondary.specs.declared.level.SecondaryLevel.{SecondaryLevel}
 use Rattle.ddf_secondary.specs.declared.spot.Spot.{Spot}
@@ -40,9 +41,6 @@ none_past tiers spot array past block =
       λ holds. absurd
           (⊎_elim (λ h. omega (arith, facts.element_within spot block holds)) (λ h. omega (arith, facts.block_within spot block holds)) past),
     )
-
-pub some_block : (answer block : ℕ) {P : Type 0} → (block ≡ answer) ↔ P → (◌≡◌ {A = Option ℕ} (Some answer) (Some block)) ↔ P
-some_block answer block both = (λ e. both.0 (sym (same_Some answer block e)), λ p. ap Some (sym (both.1 p)))
 
 -- the level of a value that is seen as an arrangement
 pub level_of : (inside tiers : Arrangement) (level : SecondaryLevel) → inside ≡ tiers → inside.level ≡ level → tiers.level ≡ level

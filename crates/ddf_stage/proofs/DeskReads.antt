@@ -20,7 +20,7 @@ sectors_are held a (x ∷ xs) same =
     ap (λ (y : List ℕ). y ∷ sectors_from held (a + 1) (length xs)) first
     ∙ ap (λ (ys : List (List ℕ)). x ∷ ys) (sectors_are held (a + 1) xs (λ k below. let next : a + 1 + k ≡ a + suc k = omega arith in ap held next ∙ same (suc k) (omega (arith, below))))
 
-pub staged_from : (gate : Gate) (sectors : List (List ℕ)) → Staged
+unfoldable pub staged_from : (gate : Gate) (sectors : List (List ℕ)) → Staged
 staged_from gate sectors = record { gate = gate; sectors = sectors }
 
 pub behind_gate : (image : Image) (desk : Desk) (gate : Gate) (sectors : List (List ℕ)) → length sectors ≡ 17 → ((k : ℕ) → k < 17 → image desk.slot (desk.lba + 1 + k) ≡ slice_index_or sectors k [])

@@ -2,7 +2,7 @@
 use Rattle.std.proofs.Common.{◌≡◌, ◌↔◌, ◌∙◌, ℕ, ◌+◌, ◌<◌, ◌≤◌, ◌^◌, Bool, true, false, ◌&&◌, List, [], ◌∷◌, length, Option, Some, None, refl, sym, ap, subst, arith, inr, lit<}
 use Rattle.std.specs.Prelude.{nat_eq, slice_index, if◌then◌else◌}
 use Rattle.std.specs.List.{AllByRecursion}
-use Rattle.std.proofs.lemmas.Bool.{eqb-true, eq-eqb}
+use Rattle.std.proofs.lemmas.Bool.{eqb-true, eq-eqb, and_parts}
 use Rattle.std.proofs.lemmas.List.{length-replicate}
 use Rattle.std.specs.Cmp.Lexicographic.{pointwise}
 use Rattle.ddf_seal.specs.Seal.{seal_place}
@@ -17,16 +17,12 @@ use Rattle.ddf_stage.specs.Gate.{IsGate, blank, gate_at, gate_bytes, gate_fields
 
 -- ---- lists that are alike
 
-and_both : (a b : Bool) → (a && b) ≡ true → (a ≡ true) × (b ≡ true)
-and_both true b e = (refl, e)
-and_both false b e = absurd (cc)
-
 pub same_from_test : (xs ys : List ℕ) → pointwise nat_eq xs ys ≡ true → xs ≡ ys
 same_from_test [] [] e = refl
 same_from_test [] (y ∷ ys) e = absurd (cc)
 same_from_test (x ∷ xs) [] e = absurd (cc)
 same_from_test (x ∷ xs) (y ∷ ys) e =
-    let parts = and_both (nat_eq x y) (pointwise nat_eq xs ys) e in
+    let parts = and_parts (nat_eq x y) (pointwise nat_eq xs ys) e in
     ap (λ n. n ∷ xs) (eqb-true x y parts.0) ∙ ap (λ l. y ∷ l) (same_from_test xs ys parts.1)
 
 pub test_same : (xs : List ℕ) → pointwise nat_eq xs xs ≡ true

@@ -5,6 +5,7 @@ use Rattle.ddf_bay.specs.Sectors.{Image, Outcomes, InRun, IsLeft, put_run}
 use Rattle.ddf_bay.specs.Moments as bay
 use Rattle.ddf_bay.specs.Moments.{IsSettled, Keeps}
 use Rattle.std.proofs.lemmas.Bool.{cases_eq, cases_lt}
+use Rattle.ddf_lemmas.proofs.Options.{some_is}
 use Rattle.ddf_bay.proofs.Runs.{inside, before as put_before, after as put_after, other as put_other}
 use Rattle.ddf_stage.specs.declared.desk.Desk.{Desk}
 use Rattle.ddf_stage.specs.declared.desk.StageCell.{StageCell}
@@ -12,9 +13,6 @@ use Rattle.ddf_stage.specs.declared.desk.Staged.{Staged}
 use Rattle.ddf_stage.specs.Desks.{HaveOwnSlots, IsOnDesks}
 use Rattle.ddf_stage.specs.Laid.{sector_of}
 use Rattle.ddf_stage.specs.Staging.{Adds, AreAside, AreOwnCells, Either, Giving, IsAmong, IsBetween, IsCell, IsThere, Mixes}
-
-some_is : {X : Type 0} {a b : X} → Some a ≡ Some b → a ≡ b
-some_is e = cc
 
 -- ---- one run more on a desk
 

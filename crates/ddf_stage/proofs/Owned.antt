@@ -1,13 +1,12 @@
 -- Which slots have a cell.
-use Rattle.std.proofs.Common.{◌≡◌, ◌∙◌, ℕ, zero, suc, Bool, true, false, List, [], ◌∷◌, Some, refl, sym, ap, slice_get}
+use Rattle.std.proofs.Common.{◌≡◌, ◌∙◌, ℕ, suc, Bool, true, false, List, [], ◌∷◌, Some, refl, sym, slice_get}
 use Rattle.std.specs.Prelude.{◌==◌, ◌||◌}
 use Rattle.std.specs.List.{list_any}
 use Rattle.std.proofs.lemmas.Bool.{eq-eqb, eqb-true}
+use Rattle.std.proofs.lemmas.Map.Keys.{any_passes_from_place}
+use Rattle.ddf_lemmas.proofs.Tests.{true_not_false}
 use Rattle.ddf_stage.specs.declared.desk.StageCell.{StageCell}
 use Rattle.ddf_stage.specs.Staging.{HasCell}
-
-true_not_false : true ≡ false → ⊥
-true_not_false e = cc
 
 -- an item that passes
 record Passes {X : Type 0} (test : X → Bool) (xs : List X) : Type 0 where
@@ -25,15 +24,6 @@ passing : {X : Type 0} (test : X → Bool) (xs : List X) → list_any test xs �
 passing test [] any = absurd (true_not_false (sym any))
 passing test (y ∷ xs) any = passing_by test y xs (test y) refl any (passing test xs)
 
-or_true : (b : Bool) → (b || true) ≡ true
-or_true true = refl
-or_true false = refl
-
-any_passes : {X : Type 0} (test : X → Bool) (xs : List X) (k : ℕ) (x : X) → slice_get xs k ≡ Some x → test x ≡ true → list_any test xs ≡ true
-any_passes test [] k x at is = absurd (cc)
-any_passes test (y ∷ xs) zero x at is = let same : y ≡ x = cc in ap (λ b. b || list_any test xs) (ap test same ∙ is)
-any_passes test (y ∷ xs) (suc k) x at is = ap (λ b. test y || b) (any_passes test xs k x at is) ∙ or_true (test y)
-
 pub has_one : (cells : List StageCell) (slot : ℕ) → list_any (λ (cell : StageCell). cell.slot == slot) cells ≡ true → HasCell cells slot
 has_one cells slot any =
     let one = passing (λ (cell : StageCell). cell.slot == slot) cells any in
@@ -41,4 +31,4 @@ has_one cells slot any =
 
 pub has_none : (cells : List StageCell) (slot : ℕ) → list_any (λ (cell : StageCell). cell.slot == slot) cells ≡ false → HasCell cells slot → ⊥
 has_none cells slot none has =
-    true_not_false (sym (any_passes (λ (cell : StageCell). cell.slot == slot) cells has.number has.cell has.is_cell (eq-eqb has.cell.slot slot (sym has.on_slot))) ∙ none)
+    true_not_false (sym (any_passes_from_place (λ (cell : StageCell). cell.slot == slot) cells has.number has.cell has.is_cell (eq-eqb has.cell.slot slot (sym has.on_slot))) ∙ none)

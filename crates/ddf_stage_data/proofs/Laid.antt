@@ -2,6 +2,8 @@
 use Rattle.std.proofs.Common.{◌≡◌, ◌∙◌, ◌⊎◌, inl, inr, ℕ, zero, suc, ◌+◌, ◌<◌, Bool, true, false, List, [], ◌∷◌, Option, Some, None, refl, sym, ap, subst, arith, slice_get, ◌&&◌}
 use Rattle.std.specs.Prelude.{find, ◌==◌, slice_index_or, if◌then◌else◌}
 use Rattle.std.proofs.lemmas.Bool.{eq-eqb, eqb-true}
+use Rattle.ddf_lemmas.proofs.Options.{some_is}
+use Rattle.ddf_lemmas.proofs.Tests.{and_first, and_second}
 use Rattle.ddf_bay.specs.Sectors.{Image}
 use Rattle.ddf_array.specs.declared.part.Part.{Part}
 use Rattle.ddf_array.specs.declared.site.Site.{Site}
@@ -9,7 +11,6 @@ use Rattle.ddf_array.specs.Apart.{IsApart}
 use Rattle.ddf_array.specs.Places.{site_on}
 use Rattle.ddf_array.specs.Sources.{copies}
 use Rattle.ddf_array.specs.Volume.{Volume, IsVolume}
-use Rattle.ddf_array.proofs.Bools.{and_first, and_second}
 use Rattle.ddf_cells.proofs.CopiesOn.{block_at_sits, on_position}
 use Rattle.ddf_cells.proofs.OnCells.{block_below, no_parity, on_cell, one_place}
 use Rattle.ddf_write.specs.Writing.{IsParityAt, MayGive}
@@ -18,9 +19,6 @@ use Rattle.ddf_stage.specs.declared.desk.Staged.{Staged}
 use Rattle.ddf_stage.specs.Laid.{is_at, laid, sector_of}
 use Rattle.ddf_stage_data.specs.Staged.{IsStaged}
 use Rattle.ddf_stage_data.specs.Moments.{AreCellsOf, IsAmongCells, IsRight, IsStageCell, parity_of, value_of}
-
-some_is : {X : Type 0} {a b : X} → Some a ≡ Some b → a ≡ b
-some_is e = cc
 
 -- ---- the cell that is found at a sector
 

@@ -11,7 +11,8 @@ use Rattle.ddf_array.specs.Sound.{AreSectors}
 use Rattle.ddf_array.specs.Sources.{Source, copy, row, every_source}
 use Rattle.ddf_array.specs.Values.{bytes_at, given, sum_at, value}
 use Rattle.ddf_array.specs.Volume.{Volume}
-use Rattle.ddf_data_array.proofs.Totals.{long_sum, long_zeros}
+use Rattle.ddf_array.proofs.RowSums.{long_zeros}
+use Rattle.ddf_data_array.proofs.Totals.{long_sum}
 use Rattle.ddf_stage_data.specs.Staged.{cell_with}
 
 module _ (image : Image) (are : AreSectors image) where

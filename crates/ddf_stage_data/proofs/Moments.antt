@@ -1,12 +1,12 @@
 -- An array keeps what it keeps at every moment of a staged write, whichever disks are lost then.
 use Rattle.std.proofs.Common.{◌≡◌, ◌∙◌, ◌⊎◌, inl, inr, ⊎_elim, ℕ, zero, suc, ◌+◌, ◌<◌, Bool, true, false, not, List, [], ◌∷◌, Option, Some, None, refl, sym, ap, subst, arith, length, slice_get}
-use Rattle.std.specs.Prelude.{find, slice_index_or, if◌then◌else◌}
+use Rattle.std.specs.Prelude.{find, if◌then◌else◌}
+use Rattle.ddf_lemmas.proofs.Options.{none_some, some_is}
 use Rattle.ddf_bay.specs.Sectors.{Image}
 use Rattle.ddf_array.specs.Sound.{AreSectors}
-use Rattle.ddf_array.specs.Values.{given}
 use Rattle.ddf_array.specs.Volume.{Volume, IsVolume}
 use Rattle.ddf_cells.specs.Alike.{AreAlike, IsCell as IsCellOf}
-use Rattle.ddf_data_array.specs.Allowed.{Allowed, May, while_written}
+use Rattle.ddf_data_array.specs.Allowed.{Allowed, while_written}
 use Rattle.ddf_array.specs.Apart.{IsApart}
 use Rattle.ddf_array.specs.Within.{is_within}
 use Rattle.ddf_data_array.specs.Fewer.{IsFewer, LeavesParity, LeavesRows}
@@ -24,25 +24,12 @@ use Rattle.ddf_stage.specs.Gate.{gate_bytes, opened}
 use Rattle.ddf_stage.specs.Laid.{first_open, is_at, laid, names_one, on_desk, sector_of, sectors_from, staged_behind}
 use Rattle.ddf_stage.specs.Staging.{IsCell, IsThere}
 use Rattle.ddf_stage.proofs.Gates.{opened_open}
+use Rattle.ddf_stage.proofs.DeskReads.{sectors_are, staged_from}
+use Rattle.ddf_data_array.proofs.Common.{kept_more}
 use Rattle.ddf_stage_data.specs.Moments.{AllOld, AllOpen, AreAlikeCells, AreCellsOf, AreCovered, AreItsDesks, HaveSectors, IsBehindOpen, IsMoment, IsOffDesks, IsRight, IsStage, is_shut, through, value_of}
 use Rattle.ddf_stage_data.specs.Stops.{IsBeforeGates}
 use Rattle.ddf_stage_data.proofs.Laid.{found_at, laid_is_staged, some_found}
 use Rattle.ddf_stage_data.proofs.Whole as whole
-
-some_is : {X : Type 0} {a b : X} → Some a ≡ Some b → a ≡ b
-some_is e = cc
-
-not_both : {X : Type 0} (o : Option X) (x : X) → o ≡ None → o ≡ Some x → ⊥
-not_both o x a b = cc
-
--- more that a block may have changes nothing
-pub kept_more : (is_absent : ℕ → ℕ → Bool) (v : Volume) (image : Image) (allowed more : Allowed) → ((block : ℕ) (bytes : List ℕ) → May (allowed block) bytes → May (more block) bytes)
-    → IsKeptData is_absent v image allowed → IsKeptData is_absent v image more
-kept_more is_absent v image allowed more up kept = record {
-  sound = kept.sound;
-  reads = λ block k source at. up block (given image source) (kept.reads block k source at);
-  rows = kept.rows;
-}
 
 -- ---- the first open gate
 
@@ -89,17 +76,6 @@ shut_desk arrays image desk shut = by (opened (image desk.slot desk.lba)) shut
     by None e = refl
     by (Some gate) e = by_name gate (names_one arrays gate) e
 
-sectors_are : (held : ℕ → List ℕ) (a : ℕ) (xs : List (List ℕ)) → ((k : ℕ) → k < length xs → held (a + k) ≡ slice_index_or xs k []) → sectors_from held a (length xs) ≡ xs
-sectors_are held a [] same = refl
-sectors_are held a (x ∷ xs) same =
-    let zeroth : a ≡ a + 0 = omega arith in
-    let first : held a ≡ x = ap held zeroth ∙ same 0 (omega arith) in
-    ap (λ (y : List ℕ). y ∷ sectors_from held (a + 1) (length xs)) first
-    ∙ ap (λ (ys : List (List ℕ)). x ∷ ys) (sectors_are held (a + 1) xs (λ k below. let next : a + 1 + k ≡ a + suc k = omega arith in ap held next ∙ same (suc k) (omega (arith, below))))
-
-staged_from : (gate : Gate) (sectors : List (List ℕ)) → Staged
-staged_from gate sectors = record { gate = gate; sectors = sectors }
-
 module _ (arrays : List (List ℕ)) (desks : List Desk) (staged : Staged) (is_stage : IsStage staged) (names : names_one arrays staged.gate ≡ true) (image : Image) (payload : IsBehindOpen desks staged image) where
   behind : (k : ℕ) (desk : Desk) → slice_get desks k ≡ Some desk → image desk.slot desk.lba ≡ gate_bytes true staged.gate → staged_behind image desk staged.gate ≡ staged
   unfolding staged_from
@@ -121,7 +97,7 @@ module _ (arrays : List (List ℕ)) (desks : List Desk) (staged : Staged) (is_st
   pub shows : (k : ℕ) (desk : Desk) (other : Staged) → slice_get desks k ≡ Some desk → (image desk.slot desk.lba ≡ gate_bytes true staged.gate) ⊎ (is_shut arrays (image desk.slot desk.lba) ≡ true)
       → on_desk arrays image desk ≡ Some other → other ≡ staged
   shows k desk other at (inl opens) e = some_is (sym e ∙ open_here k desk at opens)
-  shows k desk other at (inr shut) e = absurd (not_both (on_desk arrays image desk) other (shut_desk arrays image desk shut) e)
+  shows k desk other at (inr shut) e = absurd (none_some (on_desk arrays image desk) other (shut_desk arrays image desk shut) e)
 
 -- ---- the moments
 
@@ -149,7 +125,7 @@ module _ (is_absent : ℕ → ℕ → Bool) (v : Volume) (known : IsVolume v) (n
       (⊎_elim (λ on. absurd (off s l lies on))
       (λ cell.
       let found = some_found s l cells cell.number cell.cell cell.is_cell (sym cell.on_slot) (sym cell.at) in
-      absurd (not_both (find (is_at s l) cells) found.0 none found.1)))
+      absurd (none_some (find (is_at s l) cells) found.0 none found.1)))
       (moment.others s l)
 
   -- with what is staged laid over, it is the block written whole
@@ -188,7 +164,7 @@ module _ (is_absent : ℕ → ℕ → Bool) (v : Volume) (known : IsVolume v) (n
           let same : mine.desk ≡ has.desk = its.same mine.number has.number mine.desk has.desk mine.is_desk has.is_desk (sym mine.on_slot ∙ sym found.on_slot ∙ has.on_slot) in
           let shut = none_at arrays image here none mine.number mine.desk mine.is_desk in
           let stands = open_here arrays desks staged is_stage names image moment.payload has.number has.desk has.is_desk (opens has.number has.desk has.is_desk) in
-          absurd (not_both (on_desk arrays image has.desk) staged (ap (on_desk arrays image) (sym same) ∙ shut) stands)
+          absurd (none_some (on_desk arrays image has.desk) staged (ap (on_desk arrays image) (sym same) ∙ shut) stands)
 
   module _ (allowed : Allowed) (kept : IsKeptData is_absent v before allowed)
       (after : IsKeptData is_absent v over (while_written allowed staged.gate.block (value_of staged ∷ []))) (over_are : AreSectors (laid staged (fewer staged) image)) where
@@ -209,7 +185,7 @@ module _ (is_absent : ℕ → ℕ → Bool) (v : Volume) (known : IsVolume v) (n
         let there = open_at arrays image here other e in
         ⊎_elim
         (λ mine. shows arrays desks staged is_stage names image moment.payload mine.0 there.desk other mine.1 (moment.gates mine.0 there.desk mine.1) there.stands)
-        (λ shut. absurd (not_both (on_desk arrays image there.desk) other shut there.stands))
+        (λ shut. absurd (none_some (on_desk arrays image there.desk) other shut there.stands))
         (its.each there.number there.desk there.is_desk)
 
     by_first : (o : Option Staged) → first_open arrays image here ≡ o
@@ -232,8 +208,8 @@ module _ (is_absent : ℕ → ℕ → Bool) (v : Volume) (known : IsVolume v) (n
   none_open other e =
       let there = open_at arrays image here other e in
       ⊎_elim
-      (λ mine. not_both (on_desk arrays image there.desk) other (shut_desk arrays image there.desk (early.gates mine.0 there.desk mine.1)) there.stands)
-      (λ shut. not_both (on_desk arrays image there.desk) other shut there.stands)
+      (λ mine. none_some (on_desk arrays image there.desk) other (shut_desk arrays image there.desk (early.gates mine.0 there.desk mine.1)) there.stands)
+      (λ shut. none_some (on_desk arrays image there.desk) other shut there.stands)
       (its.each there.number there.desk there.is_desk)
 
   as_before : AreAlike v before image

@@ -3,6 +3,7 @@ use Rattle.std.proofs.Common.{◌≡◌, ◌≢◌, ◌∙◌, ◌⊎◌, inl, i
 use Rattle.std.specs.Prelude.{◌==◌, if◌then◌else◌}
 use Rattle.std.specs.List.{range_with_len}
 use Rattle.std.proofs.lemmas.Bool.{eq-eqb, eqb-true, ne_eqb, cases_eq}
+use Rattle.ddf_lemmas.proofs.Options.{none_some, some_is}
 use Rattle.ddf_bay.specs.Sectors.{Image}
 use Rattle.ddf_parity.specs.Xor.{xor_all, zeros}
 use Rattle.ddf_primary.specs.Cells.{parity_member}
@@ -28,12 +29,6 @@ use Rattle.ddf_write.specs.Writing.{IsTouched}
 use Rattle.ddf_data_array.proofs.Totals.{from_others, total, with_sum}
 use Rattle.ddf_stage_data.specs.Staged.{IsStaged, cell_with, sum_with}
 use Rattle.ddf_stage_data.proofs.Long.{long_with}
-
-some_is : {X : Type 0} {a b : X} → Some a ≡ Some b → a ≡ b
-some_is e = cc
-
-pub some_none : {X : Type 0} (o : Option X) (x : X) → o ≡ None → o ≡ Some x → ⊥
-some_none o x a b = cc
 
 module _ (v : Volume) (known : IsVolume v) (apart : IsApart v) (block : ℕ) (bytes : List ℕ) (long : length bytes ≡ 512) (before image : Image) (are : AreSectors before)
     (was : IsRedundant v before) (staged : IsStaged v block bytes before image) where
@@ -75,7 +70,7 @@ module _ (v : Volume) (known : IsVolume v) (apart : IsApart v) (block : ℕ) (by
     data_by : (position : ℕ) (own : Site) → site_at part.places position sector ≡ Some own → (parity_member part.shape (sector / part.shape.strip) ≡ Some position → ⊥)
         → (o : Option ℕ) → block_at v e position sector ≡ o → bytes_at image own ≡ cell position
     data_by position own is off_parity None found =
-        stays position own is (λ at. some_none (block_at v e position sector) block found at) (λ parity touched. off_parity parity)
+        stays position own is (λ at. none_some (block_at v e position sector) block found at) (λ parity touched. off_parity parity)
         ∙ sym (cell_value_is v before was e part is_part position sector own is)
         ∙ ap (λ (o : Option ℕ). elim o [ None ↦ cell_value v before e part sector position | Some other ↦ if other == block then bytes else cell_value v before e part sector position ]) (sym found)
     data_by position own is off_parity (Some other) found = by_block (cases_eq other block)

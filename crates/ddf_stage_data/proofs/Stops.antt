@@ -2,6 +2,7 @@
 use Rattle.std.proofs.Common.{◌≡◌, ◌∙◌, ◌⊎◌, inl, inr, ⊎_elim, ℕ, zero, suc, ◌+◌, ◌-◌, ◌<◌, ◌≤◌, Bool, true, false, not, List, [], ◌∷◌, Option, Some, None, refl, sym, ap, subst, arith, slice_get}
 use Rattle.std.specs.Prelude.{slice_index_or, if◌then◌else◌}
 use Rattle.std.proofs.lemmas.Bool.{false≢true}
+use Rattle.ddf_lemmas.proofs.Options.{some_is}
 use Rattle.ddf_bay.specs.Sectors.{Image, Outcomes, InRun, IsLeft}
 use Rattle.ddf_stage.specs.declared.desk.Desk.{Desk}
 use Rattle.ddf_stage.specs.declared.desk.StageCell.{StageCell}
@@ -14,9 +15,6 @@ use Rattle.ddf_stage.specs.Staging.{AreOffDesks, AreSettled, ClosedGates, Either
 use Rattle.ddf_stage.proofs.Gates.{opened_closed, opened_is, opened_open}
 use Rattle.ddf_stage_data.specs.Moments.{AllOpen, IsBehindOpen, IsDeskSector, IsStage, is_shut}
 use Rattle.ddf_stage_data.specs.Stops.{AreShut, ComesAgain, ComesFrom, IsStagedBehind, MayStageAgain}
-
-some_is : {X : Type 0} {a b : X} → Some a ≡ Some b → a ≡ b
-some_is e = cc
 
 -- the sector of an image from before: as it is where it was left, or as it was held
 abbrev pub before_of : {P Q : Type 0} → List ℕ → List ℕ → P ⊎ Q → List ℕ

@@ -3,6 +3,8 @@ use Rattle.std.proofs.Common.{◌≡◌, ◌≢◌, ◌∙◌, ◌⊎◌, inl, i
 use Rattle.std.specs.Prelude.{◌==◌, option_map, option_to_list, unwrap_or, slice_index_or, if◌then◌else◌}
 use Rattle.std.specs.List.{range_with_len}
 use Rattle.std.proofs.lemmas.Bool.{eq-eqb, ne_eqb, cases_eq}
+use Rattle.ddf_lemmas.proofs.Lists.{at_first, map_alike}
+use Rattle.ddf_lemmas.proofs.Options.{some_is}
 use Rattle.ddf_bay.specs.Sectors.{Image}
 use Rattle.ddf_parity.specs.Xor.{xor_all, zeros}
 use Rattle.ddf_primary.specs.Cells.{depth_of, parity_member}
@@ -30,17 +32,13 @@ use Rattle.ddf_data_array.specs.Allowed.{Allowed, May, is_in, new_bytes, once_wr
 use Rattle.ddf_data_array.specs.Kept.{IsKeptData}
 use Rattle.ddf_data_array.specs.Rows.{HasNoRows}
 use Rattle.ddf_data_array.proofs.From.{IsFrom, cell_of, copy_to, source_from, source_of, source_at, source_to}
-use Rattle.ddf_data_array.proofs.Lessened.{first_item, first_of, found_below}
-use Rattle.ddf_data_array.proofs.Ranges.{map_in}
+use Rattle.ddf_data_array.proofs.Lessened.{first_item, found_below}
 use Rattle.ddf_data_array.proofs.RowsKept.{no_rows_kept}
 use Rattle.ddf_data_array.proofs.Sitting.{block_at_is, cell_deep}
 use Rattle.ddf_data_array.proofs.Totals.{is_data}
 use Rattle.ddf_data_array.proofs.Written.{in_by, in_high, in_low, new_once, new_while, old_once, old_while}
 use Rattle.ddf_stage_data.specs.Staged.{IsStaged, cell_with, sum_with}
 use Rattle.ddf_stage_data.proofs.Rows.{data_cell, elsewhere, row_gives, same_cell, same_site, same_sum, whole_zero}
-
-some_is : {X : Type 0} {a b : X} → Some a ≡ Some b → a ≡ b
-some_is e = cc
 
 module _ (v : Volume) (known : IsVolume v) (apart : IsApart v) (within : is_within v ≡ true) (block : ℕ) (bytes : List ℕ) (long : length bytes ≡ 512) (before image : Image) (are : AreSectors before)
     (was : IsRedundant v before) (staged : IsStaged v block bytes before image) where
@@ -124,7 +122,7 @@ module _ (v : Volume) (known : IsVolume v) (apart : IsApart v) (within : is_with
 
   pub value_by : (other k : ℕ) (source : Source) → slice_get (every_source v other) k ≡ Some source → value v image other ≡ Some (new_value other)
   value_by other k source at =
-      let first = first_of (every_source v other) k source at in
+      let first = at_first (every_source v other) k source at in
       ap (option_map (given image)) first.1 ∙ ap Some (source_gives other first.0 (source_from v other 0 first.0 first.1))
 
   pub value_now : (other : ℕ) → other < capacity v → value v image other ≡ Some (new_value other)
@@ -212,12 +210,12 @@ module _ (v : Volume) (known : IsVolume v) (apart : IsApart v) (within : is_with
 
     pub sum_now : row_sum v image e part sector ≡ sum_with block bytes v before e part sector
     sum_now =
-        ap xor_all (map_in (cell_value v image e part sector) (cell_with block bytes v before e part sector) (data_positions part.shape sector) (λ k position at. let bounds = par_under k position at in cell_now position bounds.0 bounds.1))
+        ap xor_all (map_alike (cell_value v image e part sector) (cell_with block bytes v before e part sector) (data_positions part.shape sector) (λ k position at. let bounds = par_under k position at in cell_now position bounds.0 bounds.1))
 
     -- that of a row that isn't touched
     pub sum_stays : ((position k : ℕ) → position < length part.places → k < 1 → block_at v e position sector ≢ Some (block + k)) → sum_with block bytes v before e part sector ≡ row_sum v before e part sector
     sum_stays not =
-        ap xor_all (map_in (cell_with block bytes v before e part sector) (cell_value v before e part sector) (data_positions part.shape sector)
+        ap xor_all (map_alike (cell_with block bytes v before e part sector) (cell_value v before e part sector) (data_positions part.shape sector)
         (λ k position at. same_cell v known apart block bytes long before image are was staged e sector part is_part inside_it not position (omega (arith, (par_under k position at).1, count_is))))
 
   pub parity_now : (is_absent : ℕ → ℕ → Bool) → HasParity is_absent v before → HasParity is_absent v image

@@ -2,6 +2,7 @@
 use Rattle.std.proofs.Common.{◌≡◌, ◌∙◌, ◌⊎◌, inl, inr, ⊎_elim, ℕ, suc, ◌+◌, ◌<◌, ◌≤◌, ◌^◌, Bool, true, false, not, List, [], ◌∷◌, Option, Some, None, Ok, refl, sym, ap, subst, arith, slice_get}
 use Rattle.std.proofs.Math.Path.{fun_ext}
 use Rattle.std.specs.Prelude.{if◌then◌else◌}
+use Rattle.ddf_lemmas.proofs.Options.{none_some}
 use Rattle.ddf_bay.specs.Moments.{IsSettled}
 use Rattle.ddf_bay.specs.Sectors.{Image, IsLeft, Outcomes}
 use Rattle.ddf_config.specs.Configuration.{Configuration}
@@ -11,7 +12,7 @@ use Rattle.ddf_array.specs.Volume.{Volume, IsVolume}
 use Rattle.ddf_data_array.specs.Allowed.{Allowed, while_written}
 use Rattle.ddf_data_group.specs.Grouped.{KeepsArrays, Promises}
 use Rattle.ddf_data_group.specs.Over.{AreCurrentSeats}
-use Rattle.ddf_data_group.proofs.Clearly.{lies_of, used}
+use Rattle.ddf_data_group.proofs.Clearly.{used}
 use Rattle.ddf_history.specs.Groups.{groups}
 use Rattle.ddf_history.specs.Issued.{Past, IsSince}
 use Rattle.ddf_data_history.specs.Promised.{AreAlone, with_promise}
@@ -24,6 +25,7 @@ use Rattle.ddf_stage.specs.Gate.{opened}
 use Rattle.ddf_stage.specs.Desks.{HaveOwnSlots, IsPayload}
 use Rattle.ddf_stage.specs.Laid.{first_open, names_one, on_desk, sectors_from, staged_behind}
 use Rattle.ddf_stage.specs.Staging.{AreOffDesks, ClosedGates, IsBetween, IsCell, OpenGates}
+use Rattle.ddf_rebuild.proofs.Aiming.{cell_lies}
 use Rattle.ddf_stage_data.specs.Moments.{IsStage, is_shut, through, value_of}
 use Rattle.ddf_stage_data.specs.Stops.{AreShut, IsBeforeGates, IsStagedBehind, MayStageAgain}
 use Rattle.ddf_stage_data.proofs.Moments.{open_at}
@@ -39,9 +41,6 @@ use Rattle.ddf_stage_promise.proofs.Desks.{all_none, desk_before, desk_of, same_
 use Rattle.ddf_stage_promise.proofs.Losing.{through_none}
 use Rattle.ddf_stage_promise.proofs.Steps.{lies_low, same_low}
 use Rattle.ddf_stage_promise.proofs.Writing.{writing_keeps}
-
-none_some : {X : Type 0} (o : Option X) (x : X) → o ≡ None → o ≡ Some x → ⊥
-none_some o x a b = cc
 
 -- ---- what desks show
 
@@ -98,7 +97,7 @@ module _ (group : List ℕ) (footing : Footing) (small : (slot : ℕ) → footin
       let floor = past_floors desk.slot desk.lba gate in
       let is = stage_cell_is v v_known staged cell ((are_cells v v_known staged).are j cell at) in
       let use_of = used config staged.gate.array (seats_on group footing past config) v view v_known in
-      let low = (lies_low group footing small past config use_of.array v use_of.over is.element is.position is.sector cell.slot cell.lba (lies_of v cell.slot cell.lba is)).low in
+      let low = (lies_low group footing small past config use_of.array v use_of.over is.element is.position is.sector cell.slot cell.lba (cell_lies v cell.slot cell.lba is)).low in
       let floors : footing.floor cell.slot ≡ footing.floor desk.slot = ap footing.floor same in
       inl (omega (arith, low, floor, floors))
 

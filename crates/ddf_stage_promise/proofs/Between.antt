@@ -1,30 +1,30 @@
 -- An array keeps what it keeps where two images are alike but at cells that it hasn't any more; and so does a group.
-use Rattle.std.proofs.Common.{◌≡◌, ◌≢◌, ◌∙◌, ◌⊎◌, inl, inr, ⊎_elim, ℕ, ◌+◌, Bool, true, false, List, [], ◌∷◌, Option, Some, None, Ok, refl, sym, ap, subst, nat_eq, slice_get, ◌&&◌}
+use Rattle.std.proofs.Common.{◌≡◌, ◌≢◌, ◌∙◌, ◌⊎◌, inl, inr, ⊎_elim, ℕ, ◌+◌, Bool, true, false, List, [], ◌∷◌, Some, Ok, refl, sym, ap, subst, nat_eq, slice_get, ◌&&◌}
 use Rattle.std.specs.Prelude.{◌==◌}
 use Rattle.std.specs.Map.{lookup}
-use Rattle.std.proofs.lemmas.Bool.{eq-eqb, eqb-true}
+use Rattle.std.proofs.lemmas.Bool.{eq-eqb, eqb-true, and_from}
+use Rattle.ddf_lemmas.proofs.Options.{some_is, same_some}
+use Rattle.ddf_lemmas.proofs.Tests.{and_first, and_second, true_false}
 use Rattle.ddf_bay.specs.Sectors.{Image}
-use Rattle.ddf_secondary.specs.Arrangement.{Arrangement}
 use Rattle.ddf_config.specs.declared.array.Array.{Array}
 use Rattle.ddf_config.specs.declared.seat.Seat.{Seat}
 use Rattle.ddf_config.specs.Configuration.{Configuration}
 use Rattle.ddf_config.specs.Members.{same_guid}
-use Rattle.ddf_config.specs.Shapes.{array_tiers}
 use Rattle.ddf_array.specs.Apart.{AreSeats, IsApart}
 use Rattle.ddf_array.specs.declared.part.Part.{Part}
 use Rattle.ddf_array.specs.declared.place.Place.{Place}
 use Rattle.ddf_array.specs.Places.{site_on}
 use Rattle.ddf_array.specs.Sound.{AreSectors}
 use Rattle.ddf_array.specs.Viewing.{view_of}
-use Rattle.ddf_array.specs.Volume.{Volume, volume, IsVolume}
+use Rattle.ddf_array.specs.Volume.{Volume, IsVolume}
 use Rattle.ddf_array.proofs.Apart.{view_apart}
-use Rattle.ddf_array.proofs.Bools.{and_first, and_second}
 use Rattle.ddf_cells.specs.Alike.{AreAlike, IsCell}
 use Rattle.ddf_cells.specs.Apart.{LiesAt}
 use Rattle.ddf_cells.proofs.Alike.{depth_below}
 use Rattle.ddf_cells.proofs.LyingApart.{lie_apart}
 use Rattle.ddf_cells.proofs.Surely.{of_place}
 use Rattle.ddf_rebuild.specs.Target.{IsInRows, IsTarget}
+use Rattle.ddf_rebuild.proofs.Aiming.{cell_lies}
 use Rattle.ddf_data_array.specs.Allowed.{Allowed}
 use Rattle.ddf_data_array.specs.Kept.{IsKeptData}
 use Rattle.ddf_data_array.proofs.RowsKept.{no_rows, rows_still}
@@ -32,12 +32,10 @@ use Rattle.ddf_data_array.proofs.Same.{kept_alike, kept_same}
 use Rattle.ddf_data_group.specs.Clear.{ChangesItsCells, IsItsCell}
 use Rattle.ddf_data_group.specs.Grouped.{KeepsArrays, Promises}
 use Rattle.ddf_data_group.specs.Over.{AreCurrentSeats, IsOver, absent_in}
-use Rattle.ddf_data_group.proofs.Clearly.{lies_of, others_same, used}
+use Rattle.ddf_data_group.proofs.Clearly.{others_same, used}
 use Rattle.ddf_data_group.proofs.Entries.{guid_is}
+use Rattle.ddf_data_history.proofs.Viewed.{over_unique}
 use Rattle.ddf_stage_promise.proofs.Remains.{Remains, lay, place_up}
-
-some_is : {X : Type 0} {a b : X} → Some a ≡ Some b → a ≡ b
-some_is e = cc
 
 -- ---- one array
 
@@ -48,7 +46,7 @@ AreAlikeBut v w one other = (e p x s l : ℕ) → LiesAt w e p x s l → (one s 
 module _ (v w : Volume) (w_known : IsVolume w) (apart : IsApart v) (remains : Remains v w) (one other : Image) (are : AreSectors other) (alike : AreAlikeBut v w one other) where
   same : AreAlike w one other
   same s l cell =
-      let lies = lies_of w s l cell in
+      let lies = cell_lies w s l cell in
       ⊎_elim (λ e. e) (λ gone. absurd (gone.1 cell)) (alike cell.element cell.position cell.sector s l lies)
 
   -- a position that is out of sync with rows that count had no available cells
@@ -67,7 +65,7 @@ module _ (v w : Volume) (w_known : IsVolume w) (apart : IsApart v) (remains : Re
         lba_is = refl;
       } in
       let here = lay v w remains e p sector slot (place.start + sector) lies in
-      let there = lies_of v slot (place.start + sector) cell in
+      let there = cell_lies v slot (place.start + sector) cell in
       let at = lie_apart v apart cell.element cell.position cell.sector e p sector slot (place.start + sector) there here in
       let of = of_place cell.part.places cell.position cell.sector (site_on slot (place.start + sector)) cell.is_site in
       let part_same : cell.part ≡ up.0 = some_is (sym cell.is_part ∙ ap (slice_get v.parts) at.0 ∙ up.2) in
@@ -93,22 +91,6 @@ module _ (v w : Volume) (w_known : IsVolume w) (apart : IsApart v) (remains : Re
       }))) kept.rows)
       kept
 
--- ---- one volume over seats
-
-same_tiers : (o : Option Arrangement) (one other : Arrangement) → o ≡ Some one → o ≡ Some other → one ≡ other
-same_tiers None one other a b = absurd (cc)
-same_tiers (Some tiers) one other a b = cc
-
-pub over_unique : (seats : List Seat) (array : Array) (v w : Volume) → IsOver seats array v → IsOver seats array w → v ≡ w
-over_unique seats array v w one other =
-    ap (λ (b : Bool). volume b v.tiers v.parts) (one.marked_is ∙ sym other.marked_is)
-    ∙ ap (λ (t : Arrangement). volume w.marked t v.parts) (same_tiers (array_tiers array) v.tiers w.tiers one.tiers_are other.tiers_are)
-    ∙ ap (λ (l : List Part). volume w.marked w.tiers l) (one.parts_are ∙ sym other.parts_are)
-
-pub same_array : (o : Option Array) (one other : Array) → o ≡ Some one → o ≡ Some other → one ≡ other
-same_array None one other a b = absurd (cc)
-same_array (Some array) one other a b = cc
-
 -- ---- a sector of one array is none of another
 
 -- an image of nothing, and one that differs from it at one sector
@@ -122,16 +104,12 @@ spot_by false = []
 abbrev spotted : (s l : ℕ) → Image
 spotted s l t m = spot_by ((t == s) && (m == l))
 
-and_both : (a b : Bool) → a ≡ true → b ≡ true → (a && b) ≡ true
-and_both true b e f = f
-and_both false b e f = e
-
 module _ (config : Configuration) (guid : List ℕ) (seats : List Seat) (v : Volume) (view : view_of config guid seats ≡ Ok v) (known : IsVolume v) (are : AreCurrentSeats config.members seats) (seated : AreSeats config.members seats) where
   spot_changes : (s l : ℕ) → IsCell v s l → ChangesItsCells v blank (spotted s l)
   spot_changes s l cell t m = by ((t == s) && (m == l)) refl
     where
       its : IsItsCell v s l
-      its = record { element = cell.element; position = cell.position; sector = cell.sector; lies = lies_of v s l cell }
+      its = record { element = cell.element; position = cell.position; sector = cell.sector; lies = cell_lies v s l cell }
 
       by : (b : Bool) → ((t == s) && (m == l)) ≡ b → (◌≡◌ {A = List ℕ} (spot_by ((t == s) && (m == l))) []) ⊎ IsItsCell v t m
       by true is =
@@ -145,14 +123,11 @@ module _ (config : Configuration) (guid : List ℕ) (seats : List Seat) (v : Vol
       → (e p x : ℕ) → LiesAt u e p x s l → ⊥
   aside s l cell other array u differs found over e p x lies =
       let same = others_same config guid seats v (used config guid seats v view known) are seated blank (spotted s l) (spot_changes s l cell) other array u differs found over e p x s l lies in
-      let here : ((s == s) && (l == l)) ≡ true = and_both (s == s) (l == l) (eq-eqb s s refl) (eq-eqb l l refl) in
+      let here : ((s == s) && (l == l)) ≡ true = and_from (s == s) (l == l) (eq-eqb s s refl) (eq-eqb l l refl) in
       let never : ◌≡◌ {A = List ℕ} [] (0 ∷ []) = same ∙ ap spot_by here in
       cc
 
 -- ---- the arrays of a group
-
-true_false : (b : Bool) → b ≡ true → b ≡ false → ⊥
-true_false b x y = cc
 
 -- From one configuration over seats to another: each array of the later one was one of the earlier, of which less may be available now.
 abbrev pub ArraysRemain : (before after : Configuration) (seats fewer : List Seat) → Type 0
@@ -173,7 +148,7 @@ module _ (before after : Configuration) (seats fewer : List Seat) (are : AreCurr
       let was = remain guid array here in
       let from = was.2 w over in
       let use_of = used before guid seats v view known in
-      let arrays : use_of.array ≡ was.0 = same_array (lookup (same_guid guid) before.arrays) use_of.array was.0 use_of.is_found was.1 in
+      let arrays : use_of.array ≡ was.0 = same_some (lookup (same_guid guid) before.arrays) use_of.array was.0 use_of.is_found was.1 in
       let is_v : from.0 ≡ v = over_unique seats was.0 from.0 v from.1 (subst (λ (a : Array). IsOver seats a v) arrays use_of.over) in
       let remains : Remains v w = subst (λ (u : Volume). Remains u w) is_v from.2 in
       kept_between v w over.is_volume (view_apart before guid seats v view seated) remains one other (are_other kept.sound.are_sectors)
@@ -190,7 +165,7 @@ module _ (before after : Configuration) (seats fewer : List Seat) (are : AreCurr
     where
       self : (xs : List ℕ) → same_guid xs xs ≡ true
       self [] = refl
-      self (x ∷ xs) = and_both (nat_eq x x) (same_guid xs xs) (eq-eqb x x refl) (self xs)
+      self (x ∷ xs) = and_from (nat_eq x x) (same_guid xs xs) (eq-eqb x x refl) (self xs)
 
   pub arrays_between : (promises : Promises) → KeepsArrays after fewer one promises → KeepsArrays after fewer other promises
   arrays_between promises kept its allowed array promised found w over =

@@ -5,7 +5,7 @@ use Rattle.std.specs.Cmp.Lexicographic.{pointwise}
 use Rattle.std.specs.List.{cons_option, list_any, range_with_len}
 use Rattle.std.specs.Map.{lookup}
 use Rattle.std.proofs.Common.{cond}
-use Rattle.std.proofs.lemmas.Bool.{eq-eqb}
+use Rattle.ddf_lemmas.proofs.Tests.{and_second}
 use Rattle.ddf_bay.specs.Sectors.{Image}
 use Rattle.ddf_config.specs.declared.array.Array.{Array}
 use Rattle.ddf_config.specs.declared.refusal.Refusal.{Refusal}
@@ -13,7 +13,6 @@ use Rattle.ddf_config.specs.declared.seat.Seat.{Seat}
 use Rattle.ddf_config.specs.Configuration.{Configuration}
 use Rattle.ddf_config.specs.Members.{same_guid}
 use Rattle.ddf_array.specs.Volume.{Volume}
-use Rattle.ddf_array.proofs.Bools.{and_second}
 use Rattle.ddf_data_array.specs.Allowed.{Allowed}
 use Rattle.ddf_data_group.specs.Grouped.{Promises}
 use Rattle.ddf_data_group.specs.Kept.{KeepsArray}
@@ -28,6 +27,7 @@ use Rattle.ddf_stage.specs.declared.desk.Desk.{Desk}
 use Rattle.ddf_stage.specs.declared.desk.Staged.{Staged}
 use Rattle.ddf_stage.specs.declared.gate.Gate.{Gate}
 use Rattle.ddf_stage.specs.Laid.{first_open, laid, names_one, on_desk}
+use Rattle.ddf_config.proofs.Common.{same_self}
 use Rattle.ddf_stage_data.specs.Moments.{through}
 use Rattle.ddf_stage_data.proofs.Moments.{open_at}
 use Rattle.ddf_stage_promise.specs.Cells.{cells_by, cells_in}
@@ -38,14 +38,6 @@ use Rattle.ddf_stage_promise.proofs.Closing.{names_it}
 use Rattle.ddf_stage_promise.proofs.Desks.{desk_of, seat_before, to_desk}
 use Rattle.ddf_stage_promise.proofs.JoinedViews.{view_joined}
 use Rattle.ddf_stage_promise.proofs.Losing.{through_none, through_some}
-
-and_both : (a b : Bool) → a ≡ true → b ≡ true → (a && b) ≡ true
-and_both true b e f = f
-and_both false b e f = e
-
-guid_self : (xs : List ℕ) → same_guid xs xs ≡ true
-guid_self [] = refl
-guid_self (x ∷ xs) = and_both (nat_eq x x) (same_guid xs xs) (eq-eqb x x refl) (guid_self xs)
 
 -- a gate names an array that is there
 named_there : (arrays : List (List ℕ × Array)) (guid : List ℕ) → list_any (λ array. pointwise nat_eq array guid) (map (λ (entry : List ℕ × Array). entry.0) arrays) ≡ true
@@ -59,7 +51,7 @@ named_there (entry ∷ arrays) guid e = by (pointwise nat_eq entry.0 guid) refl 
     by b is e true same rest = (entry.1, refl)
     by true is e false differs rest =
         let same = guid_is entry.0 guid is in
-        let both : true ≡ false = sym (guid_self guid) ∙ ap (same_guid guid) (sym same) ∙ differs in
+        let both : true ≡ false = sym (same_self guid) ∙ ap (same_guid guid) (sym same) ∙ differs in
         absurd (cc)
     by false is e false differs rest = rest e
 

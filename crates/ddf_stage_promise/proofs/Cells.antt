@@ -2,6 +2,8 @@
 use Rattle.std.proofs.Common.{◌≡◌, ◌∙◌, inl, inr, ⊎_elim, ℕ, ◌+◌, ◌/◌, ◌<◌, Bool, true, false, List, [], Option, Some, None, refl, sym, ap, subst, arith, map, slice_get}
 use Rattle.std.specs.Prelude.{find, option_and_then, if◌then◌else◌}
 use Rattle.std.specs.List.{flat_map}
+use Rattle.ddf_lemmas.proofs.Lists.{first_get, get_filter_map, in_either, in_map, in_second, mapped_at}
+use Rattle.ddf_lemmas.proofs.Options.{some_is}
 use Rattle.ddf_primary.specs.Placement.{Placement}
 use Rattle.ddf_primary.specs.Cells.{parity_member}
 use Rattle.ddf_secondary.specs.declared.spot.Spot.{Spot}
@@ -12,16 +14,13 @@ use Rattle.ddf_array.specs.Cells.{block_spots, element_cells}
 use Rattle.ddf_array.specs.Places.{site_at, site_on}
 use Rattle.ddf_array.specs.Sources.{at_spot, copies}
 use Rattle.ddf_array.specs.Volume.{Volume, IsVolume}
-use Rattle.ddf_array.proofs.Consistent.{to_filter, to_flat, at_part}
-use Rattle.ddf_array.proofs.Losses.{at_front, mapped_at}
+use Rattle.ddf_array.proofs.Consistent.{to_flat, at_part, in_filter, in_flat}
 use Rattle.ddf_cells.specs.Alike.{IsCell}
 use Rattle.ddf_cells.proofs.Alike.{cell_below, cell_site, copy_is_cell}
 use Rattle.ddf_cells.proofs.CopiesOn.{block_at_sits, on_position, sits_block_at}
-use Rattle.ddf_cells.proofs.Lists.{in_both, in_filter, in_flat, in_map}
 use Rattle.ddf_cells.proofs.OnCells.{block_below, no_parity, on_cell, one_place}
 use Rattle.ddf_write.specs.Writing.{IsParityAt}
 use Rattle.ddf_data_array.proofs.From.{HasCell, copy_from, copy_to}
-use Rattle.ddf_data_array.proofs.Ranges.{to_back}
 use Rattle.ddf_data_array.proofs.Sitting.{block_at_is, held_from}
 use Rattle.ddf_stage.specs.declared.desk.StageCell.{StageCell}
 use Rattle.ddf_stage.specs.declared.desk.Staged.{Staged}
@@ -30,9 +29,6 @@ use Rattle.ddf_stage_data.specs.Moments.{AreCellsOf, IsAmongCells, IsStageCell, 
 use Rattle.ddf_stage_data.proofs.Laid.{found_at, some_found}
 use Rattle.ddf_stage_promise.specs.Cells.{cells_of, copy_cell, element_parities, parity_cell, row_parity, spot_parities}
 use Rattle.ddf_stage_promise.proofs.Remains.{Remains, sits_down, sits_up, site_down, site_up, spots_same}
-
-some_is : {X : Type 0} {a b : X} → Some a ≡ Some b → a ≡ b
-some_is e = cc
 
 -- ---- they are all
 
@@ -95,14 +91,14 @@ module _ (v : Volume) (known : IsVolume v) (staged : Staged) where
       (λ back.
       let from = in_flat (spot_parities v staged.gate.parities) (block_spots v staged.gate.block) back.0 cell back.1 in
       spot_in from.at from.inner from.item cell from.is_at (is_set staged.gate.parities from.item.element) refl from.is_inner)
-      (in_both (map copy_cell (copies v staged.gate.block)) (flat_map (spot_parities v staged.gate.parities) (block_spots v staged.gate.block)) k cell at)
+      (in_either (map copy_cell (copies v staged.gate.block)) (flat_map (spot_parities v staged.gate.parities) (block_spots v staged.gate.block)) k cell at)
 
   copy_among : (i : ℕ) (one : Site) → slice_get (copies v staged.gate.block) i ≡ Some one → IsAmongCells (cells_of v staged.gate) one
   copy_among i one at =
       record {
         number = i;
         cell = copy_cell one;
-        is_cell = at_front copy_cells parity_cells i (copy_cell one) (mapped_at copy_cell (copies v staged.gate.block) i one at);
+        is_cell = first_get copy_cells parity_cells i (copy_cell one) (mapped_at copy_cell (copies v staged.gate.block) i one at);
         on_slot = refl;
         at = refl;
       }
@@ -115,7 +111,7 @@ module _ (v : Volume) (known : IsVolume v) (staged : Staged) where
       let gives : row_parity part sector ≡ Some one = ap (λ (o : Option ℕ). option_and_then (λ position. site_at part.places position sector) o) is.is_parity ∙ is.is_there in
       let sector_is : has.cell.1 ≡ sector = ap (λ (c : ℕ × ℕ). c.1) held.same_cell in
       let gives' : row_parity has.part has.cell.1 ≡ Some one = ap (λ (q : Part). row_parity q has.cell.1) held.same_part ∙ ap (row_parity part) sector_is ∙ gives in
-      let inner = to_filter (λ (c : ℕ × ℕ). row_parity has.part c.1) (element_cells has.part.shape has.spot.block) has.i has.cell one has.is_cell gives' in
+      let inner = get_filter_map (λ (c : ℕ × ℕ). row_parity has.part c.1) (element_cells has.part.shape has.spot.block) has.i has.cell one has.is_cell gives' in
       let there : slice_get (at_spot v.parts element_parities has.spot) inner.0 ≡ Some one =
       ap (λ (l : List Site). slice_get l inner.0) (at_part v.parts element_parities has.spot has.part has.is_part) ∙ inner.1 in
       let mapped = mapped_at (parity_cell has.spot.element) (at_spot v.parts element_parities has.spot) inner.0 one there in
@@ -123,7 +119,7 @@ module _ (v : Volume) (known : IsVolume v) (staged : Staged) where
       let of_spot : slice_get (spot_parities v staged.gate.parities has.spot) inner.0 ≡ Some (parity_cell has.spot.element one) =
       ap (λ (b : Bool). slice_get (if b then map (parity_cell has.spot.element) (at_spot v.parts element_parities has.spot) else []) inner.0) set' ∙ mapped in
       let flat = to_flat (spot_parities v staged.gate.parities) (block_spots v staged.gate.block) has.j inner.0 has.spot (parity_cell has.spot.element one) has.is_spot of_spot in
-      let all = to_back copy_cells parity_cells flat.0 (parity_cell has.spot.element one) flat.1 in
+      let all = in_second copy_cells parity_cells flat.0 (parity_cell has.spot.element one) flat.1 in
       record { number = all.0; cell = parity_cell has.spot.element one; is_cell = all.1; on_slot = refl; at = refl }
 
   pub are_cells : AreCellsOf v staged (cells_of v staged.gate)

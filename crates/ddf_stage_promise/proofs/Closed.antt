@@ -5,7 +5,7 @@ use Rattle.ddf_config.specs.Configuration.{Configuration}
 use Rattle.ddf_array.specs.Viewing.{view_of}
 use Rattle.ddf_array.specs.Volume.{Volume, IsVolume}
 use Rattle.ddf_data_group.specs.Over.{AreCurrentSeats}
-use Rattle.ddf_data_group.proofs.Clearly.{lies_of, used}
+use Rattle.ddf_data_group.proofs.Clearly.{used}
 use Rattle.ddf_history.specs.Groups.{groups}
 use Rattle.ddf_history.specs.Issued.{Past, IsSince}
 use Rattle.ddf_data_history.proofs.Steps.{seats_are}
@@ -13,6 +13,7 @@ use Rattle.ddf_stage.specs.declared.desk.Desk.{Desk}
 use Rattle.ddf_stage.specs.declared.desk.Staged.{Staged}
 use Rattle.ddf_stage.specs.Laid.{on_desk}
 use Rattle.ddf_stage.specs.Staging.{IsCell}
+use Rattle.ddf_rebuild.proofs.Aiming.{cell_lies}
 use Rattle.ddf_stage_data.specs.Moments.{IsMoment, is_shut}
 use Rattle.ddf_stage_data.proofs.Moments.{shut_desk}
 use Rattle.ddf_stage_promise.specs.Cells.{HasVolumes, cells_of}
@@ -51,7 +52,7 @@ module _ (group : List ℕ) (footing : Footing) (small : (slot : ℕ) → footin
       let floor = past_floors desk.slot desk.lba (desk_of group footing past config k desk at).is_gate in
       let is = stage_cell_is v v_known staged cell.cell ((are_cells v v_known staged).are cell.number cell.cell cell.is_cell) in
       let use_of = used config staged.gate.array (seats_on group footing past config) v view v_known in
-      let low = (lies_low group footing small past config use_of.array v use_of.over is.element is.position is.sector cell.cell.slot cell.cell.lba (lies_of v cell.cell.slot cell.cell.lba is)).low in
+      let low = (lies_low group footing small past config use_of.array v use_of.over is.element is.position is.sector cell.cell.slot cell.cell.lba (cell_lies v cell.cell.slot cell.cell.lba is)).low in
       let floors : footing.floor desk.slot ≡ footing.floor cell.cell.slot = ap footing.floor cell.on_slot in
       let same : desk.lba ≡ cell.cell.lba = cell.at in
       omega (arith, low, floor, floors, same)

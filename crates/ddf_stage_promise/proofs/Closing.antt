@@ -1,6 +1,7 @@
 -- The data of a group are kept while its gates are closed: what stands behind the first of them is staged again and written to its cells.
 use Rattle.std.proofs.Common.{◌≡◌, ◌∙◌, ◌⊎◌, inl, inr, ⊎_elim, ℕ, ◌<◌, ◌^◌, Bool, true, false, List, Option, Some, None, Result, Ok, refl, sym, ap, subst, arith, slice_get}
 use Rattle.std.specs.Prelude.{find, if◌then◌else◌}
+use Rattle.ddf_lemmas.proofs.Options.{none_some, some_is}
 use Rattle.ddf_bay.specs.Sectors.{Image}
 use Rattle.ddf_config.specs.declared.refusal.Refusal.{Refusal}
 use Rattle.ddf_config.specs.declared.seat.Seat.{Seat}
@@ -10,7 +11,7 @@ use Rattle.ddf_array.specs.Viewing.{view_of}
 use Rattle.ddf_array.specs.Volume.{Volume, IsVolume}
 use Rattle.ddf_data_group.specs.Grouped.{KeepsArrays, Promises}
 use Rattle.ddf_data_group.specs.Over.{AreCurrentSeats}
-use Rattle.ddf_data_group.proofs.Clearly.{lies_of, used}
+use Rattle.ddf_data_group.proofs.Clearly.{used}
 use Rattle.ddf_data_group.proofs.Keeping.{kept_fewer}
 use Rattle.ddf_history.specs.Groups.{groups}
 use Rattle.ddf_history.specs.Issued.{Past, IsSince}
@@ -24,6 +25,7 @@ use Rattle.ddf_stage.specs.declared.gate.Gate.{Gate}
 use Rattle.ddf_stage.specs.Gate.{gate_bytes, opened}
 use Rattle.ddf_stage.specs.Laid.{first_open, is_at, laid, names_one, on_desk, sector_of, staged_behind}
 use Rattle.ddf_stage.specs.Staging.{IsCell, IsThere}
+use Rattle.ddf_rebuild.proofs.Aiming.{cell_lies}
 use Rattle.ddf_stage_data.specs.Moments.{AllOld, AllOpen, IsDeskSector, IsMoment, IsStage, StayOpen, through}
 use Rattle.ddf_stage_data.proofs.Laid.{found_at, some_found}
 use Rattle.ddf_stage_data.proofs.Moments.{none_at, open_at, open_here, shows}
@@ -40,12 +42,6 @@ use Rattle.ddf_stage_promise.proofs.Losing.{through_none, through_some}
 use Rattle.ddf_stage_promise.proofs.Steps.{IsLow, lies_low}
 use Rattle.ddf_data_array.proofs.Same.{kept_same}
 use Rattle.ddf_data_group.specs.Over.{absent_in}
-
-some_is : {X : Type 0} {a b : X} → Some a ≡ Some b → a ≡ b
-some_is e = cc
-
-none_some : {X : Type 0} (o : Option X) (x : X) → o ≡ None → o ≡ Some x → ⊥
-none_some o x a b = cc
 
 -- what a desk shows rests on its gate: another image with the same gate shows something too
 pub shows_some : (arrays : List (List ℕ)) (one other : Image) (desk : Desk) (staged : Staged) → one desk.slot desk.lba ≡ other desk.slot desk.lba → on_desk arrays one desk ≡ Some staged → (shown : Staged) × (on_desk arrays other desk ≡ Some shown)
@@ -125,7 +121,7 @@ module _ (group : List ℕ) (footing : Footing) (small : (slot : ℕ) → footin
       let found = some_found s l cells on.number on.cell on.is_cell (sym on.on_slot) (sym on.at) in
       let cell = found_cell v v_known staged s l found.0 cells (are_cells v v_known staged) found.1 in
       let use_of = used config staged.gate.array seats v view v_known in
-      (lies_low group footing small past config use_of.array v use_of.over cell.element cell.position cell.sector s l (lies_of v s l cell)).low
+      (lies_low group footing small past config use_of.array v use_of.over cell.element cell.position cell.sector s l (cell_lies v s l cell)).low
 
   -- a desk whose gate stands open now is one of them, and shows what is staged
   its_desk : (k : ℕ) (desk : Desk) (shown : Staged) → slice_get all k ≡ Some desk → on_desk arrays image desk ≡ Some shown → (j : ℕ) × (slice_get desks j ≡ Some desk)

@@ -7,6 +7,8 @@ use Rattle.std.specs.List.{cons_option, range_with_len}
 use Rattle.std.specs.Map.{lookup}
 use Rattle.std.proofs.lemmas.Bool.{leb-true, le-leb}
 use Rattle.std.proofs.lemmas.Option.{slice_get_within}
+use Rattle.ddf_lemmas.proofs.Options.{some_is}
+use Rattle.ddf_lemmas.proofs.Tests.{true_false}
 use Rattle.ddf_bay.specs.Sectors.{Image}
 use Rattle.ddf_config.specs.declared.array.Array.{Array}
 use Rattle.ddf_config.specs.declared.element.Position.{Position}
@@ -59,15 +61,6 @@ use Rattle.ddf_stage_promise.proofs.Laying.{laid_none}
 use Rattle.ddf_stage_promise.proofs.Losing.{through_none, through_some}
 use Rattle.ddf_stage_promise.proofs.LostViews.{remains_over}
 use Rattle.ddf_stage_promise.proofs.Remains.{DoRemain, Remains, parts_stay}
-
-some_is : {X : Type 0} {a b : X} → Some a ≡ Some b → a ≡ b
-some_is e = cc
-
-none_some : {X : Type 0} (o : Option X) (x : X) → o ≡ None → o ≡ Some x → ⊥
-none_some o x a b = cc
-
-true_false : (b : Bool) → b ≡ true → b ≡ false → ⊥
-true_false b a c = cc
 
 -- ---- what a gate shows, by fewer arrays
 

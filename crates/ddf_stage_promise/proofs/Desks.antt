@@ -2,27 +2,21 @@
 use Rattle.std.proofs.Common.{◌≡◌, ◌∙◌, ◌⊎◌, inl, inr, ℕ, zero, suc, ◌+◌, ◌<◌, Bool, true, false, not, List, [], ◌∷◌, Option, Some, None, refl, sym, ap, subst, arith, slice_get, ◌&&◌}
 use Rattle.std.specs.Prelude.{option_map}
 use Rattle.std.specs.List.{range_with_len}
+use Rattle.ddf_lemmas.proofs.Lists.{get_filter_map, slice_get-range}
+use Rattle.ddf_lemmas.proofs.Options.{some_is}
 use Rattle.ddf_bay.specs.Sectors.{Image}
-use Rattle.ddf_primary.proofs.Lists.{slice_get-range}
 use Rattle.ddf_config.specs.declared.seat.Seat.{Seat}
 use Rattle.ddf_config.specs.Configuration.{Configuration}
-use Rattle.ddf_array.proofs.Consistent.{to_filter}
-use Rattle.ddf_cells.proofs.Lists.{in_filter, in_range}
+use Rattle.ddf_cells.proofs.Lists.{in_range}
 use Rattle.ddf_history.specs.Groups.{Disk, groups, has_current}
 use Rattle.ddf_history.specs.Issued.{Past}
 use Rattle.ddf_data_history.specs.Promised.{is_seat, seat_if}
 use Rattle.ddf_stage.specs.declared.desk.Desk.{Desk}
 use Rattle.ddf_stage.specs.declared.desk.Staged.{Staged}
 use Rattle.ddf_stage.specs.Laid.{first_open, on_desk}
+use Rattle.ddf_array.proofs.Consistent.{in_filter}
 use Rattle.ddf_stage_promise.specs.Footing.{Footing, desk_at, desk_on}
 use Rattle.ddf_stage_promise.specs.Staged.{desks_on, losing, seats_on}
-
-some_is : {X : Type 0} {a b : X} → Some a ≡ Some b → a ≡ b
-some_is e = cc
-
-and_both : (a b : Bool) → a ≡ true → b ≡ true → (a && b) ≡ true
-and_both true b e f = f
-and_both false b e f = e
 
 -- ---- what stands open
 
@@ -77,9 +71,9 @@ module _ (group : List ℕ) (footing : Footing) where
   to_desk past config slot lba is below gate =
       let seat : Seat = record { reference = (past.disk slot).reference; slot = slot; floor = footing.floor slot; bad = 0 } in
       let same : 0 + slot ≡ slot = omega arith in
-      let there = to_filter (λ slot. seat_if (is_seat group past config slot) footing.floor (past.disk slot) slot) (range_with_len 0 past.slots) slot slot seat
+      let there = get_filter_map (λ slot. seat_if (is_seat group past config slot) footing.floor (past.disk slot) slot) (range_with_len 0 past.slots) slot slot seat
       (slice_get-range 0 past.slots slot below ∙ ap Some same) (ap (λ (b : Bool). seat_if b footing.floor (past.disk slot) slot) is) in
-      to_filter (λ (seat : Seat). desk_on footing.gate seat.slot) (seats_on group footing past config) there.0 seat (desk_at slot lba) there.1 (ap (option_map (desk_at slot)) gate)
+      get_filter_map (λ (seat : Seat). desk_on footing.gate seat.slot) (seats_on group footing past config) there.0 seat (desk_at slot lba) there.1 (ap (option_map (desk_at slot)) gate)
 
   -- no two are on one slot
   pub same_desk : (one other : Desk) → footing.gate one.slot ≡ Some one.lba → footing.gate other.slot ≡ Some other.lba → one.slot ≡ other.slot → one ≡ other

@@ -1,5 +1,6 @@
 -- What a stop leaves of a bay behind a call that wrote a block from its stage and closed the gates: no gate of the group stands open.
-use Rattle.std.proofs.Common.{◌≡◌, ◌∙◌, inl, inr, ℕ, ◌<◌, ◌^◌, true, List, [], ◌∷◌, Option, Some, None, Ok, slice_get}
+use Rattle.std.proofs.Common.{◌≡◌, ◌∙◌, inl, inr, ℕ, ◌<◌, ◌^◌, true, List, [], ◌∷◌, Some, Ok, slice_get}
+use Rattle.ddf_lemmas.proofs.Options.{none_some}
 use Rattle.ddf_bay.specs.Moments.{IsSettled}
 use Rattle.ddf_bay.specs.Sectors.{Image, IsLeft, Outcomes}
 use Rattle.ddf_config.specs.Configuration.{Configuration}
@@ -28,9 +29,6 @@ use Rattle.ddf_stage_promise.specs.Writing.{MayBeStaged}
 use Rattle.ddf_stage_promise.proofs.Bays.{before_to_close, cells_off, close_writing}
 use Rattle.ddf_stage_promise.proofs.Closed.{closed_none}
 use Rattle.ddf_stage_promise.proofs.Writing.{written_keeps}
-
-none_some : {X : Type 0} (o : Option X) (x : X) → o ≡ None → o ≡ Some x → ⊥
-none_some o x a b = cc
 
 module _ (group : List ℕ) (footing : Footing) (small : (slot : ℕ) → footing.floor slot < 2 ^ 64) (past_floors : LiePastFloors footing) (past : Past (groups group)) (alone : AreAlone group past)
     (number : ℕ) (config : Configuration) (since : IsSince past.changes number config) (known : HasVolumes config) (only : (n : ℕ) (c : Configuration) → IsSince past.changes n c → (n ≡ number) × (c ≡ config))

@@ -2,12 +2,12 @@
 use Rattle.std.proofs.Common.{◌≡◌, ◌∙◌, inr, ⊎_elim, ℕ, ◌+◌, ◌<◌, Bool, true, false, not, ◌&&◌, ◌||◌, List, [], ◌∷◌, Option, Some, None, Ok, refl, sym, ap, arith}
 use Rattle.std.specs.Prelude.{nat_lt, option_map}
 use Rattle.std.specs.List.{list_any}
+use Rattle.ddf_lemmas.proofs.Tests.{and_second}
 use Rattle.ddf_config.specs.declared.array.Array.{Array}
 use Rattle.ddf_config.specs.declared.extent.Extent.{Extent}
 use Rattle.ddf_config.specs.declared.refusal.Refusal.TheVariants.{Shape, Lost}
 use Rattle.ddf_config.specs.declared.seat.Seat.{Seat}
 use Rattle.ddf_config.specs.Configuration.{Configuration}
-use Rattle.ddf_config.specs.ElementValue.{ElementValue}
 use Rattle.ddf_config.specs.Extents.{array_extents, extents}
 use Rattle.ddf_config.specs.Levels.{unserved_level}
 use Rattle.ddf_config.specs.Refusals.{first_refusal, refuse_if}
@@ -18,15 +18,14 @@ use Rattle.ddf_config.specs.Within.{is_complete}
 use Rattle.ddf_array.specs.Losing.{AreFewer}
 use Rattle.ddf_array.specs.Viewing.{view_of}
 use Rattle.ddf_array.specs.Volume.{Volume}
-use Rattle.ddf_array.proofs.Bools.{and_second}
 use Rattle.ddf_array.proofs.Usable.{below_floors}
 use Rattle.ddf_array.proofs.Viewed.{from_view, has_view}
-use Rattle.ddf_data_group.specs.Lessening.{AreLessParts, AreLessPositions, IsLessArray}
-use Rattle.ddf_config.specs.declared.element.Position.{Position}
+use Rattle.ddf_data_group.specs.Lessening.{IsLessArray}
 use Rattle.ddf_data_group.specs.Over.{AreCurrentSeats}
 use Rattle.ddf_history.specs.Groups.{groups, has_current}
 use Rattle.ddf_history.specs.Issued.{Past, IsSince}
 use Rattle.ddf_history.proofs.Sound.{groups_are_sound}
+use Rattle.ddf_data_group.proofs.Keeping.{less_parts}
 use Rattle.ddf_data_history.specs.Promised.{AreAlone, is_seat}
 use Rattle.ddf_data_history.proofs.Seats.{are_fewer, found, seat_below}
 use Rattle.ddf_stage_promise.specs.Footing.{Footing}
@@ -37,10 +36,6 @@ use Rattle.ddf_stage_promise.proofs.LostViews.{remains_over}
 use Rattle.ddf_stage_promise.proofs.Remains.{parts_stay}
 
 -- ---- fewer seats
-
-not_false : (b : Bool) → (b ≡ true → ⊥) → b ≡ false
-not_false true never = absurd (never refl)
-not_false false never = refl
 
 module _ (seats fewer : List Seat) (few : AreFewer seats fewer) where
   passes_by : (one : Extent) (o : Option ℕ) → floor_of fewer one.reference ≡ o → passes_floor fewer one ≡ true → passes_floor seats one ≡ true
@@ -83,15 +78,6 @@ module _ (seats fewer : List Seat) (few : AreFewer seats fewer) where
       has_view config guid fewer from.array from.array_is usable
 
 -- ---- the same array
-
-less_positions : (positions : List Position) → AreLessPositions positions positions
-less_positions [] = tt
-less_positions (one ∷ positions) = (inr (refl, refl, refl, inr refl), less_positions positions)
-
-less_parts : (known : List (Option ElementValue)) → AreLessParts known known
-less_parts [] = tt
-less_parts (None ∷ known) = (tt, less_parts known)
-less_parts (Some element ∷ known) = (record { same_level = refl; same_qualifier = refl; same_strip = refl; same_blocks = refl; less = less_positions element.positions }, less_parts known)
 
 pub less_same : (array : Array) → IsLessArray array array
 less_same array = record { same_secondary = refl; mark_is = inr refl; less = less_parts array.elements }

@@ -1,14 +1,15 @@
 -- Each step of a history keeps the data of its group with what is staged.
-use Rattle.std.proofs.Common.{◌≡◌, ◌∙◌, ⊎_elim, ℕ, zero, suc, ◌+◌, ◌<◌, ◌≤◌, ◌^◌, Bool, true, false, not, List, [], ◌∷◌, Option, Some, None, refl, sym, ap, subst, arith, slice_get, ◌&&◌}
+use Rattle.std.proofs.Common.{◌≡◌, ◌∙◌, ⊎_elim, ℕ, zero, suc, ◌+◌, ◌<◌, ◌≤◌, ◌^◌, Bool, true, false, not, List, [], ◌∷◌, Option, Some, refl, sym, ap, subst, arith, slice_get, ◌&&◌}
 use Rattle.std.specs.Prelude.{◌==◌, if◌then◌else◌}
 use Rattle.std.specs.Map.{lookup}
 use Rattle.std.proofs.lemmas.Bool.{cases_eq, ne_eqb}
+use Rattle.ddf_lemmas.proofs.Options.{none_some}
+use Rattle.ddf_lemmas.proofs.Tests.{and_second}
 use Rattle.ddf_bay.specs.Sectors.{Image}
 use Rattle.ddf_config.specs.Configuration.{Configuration}
 use Rattle.ddf_config.specs.Members.{same_guid}
 use Rattle.ddf_plan.specs.declared.change.Change.TheVariants.{Delete, Lose}
 use Rattle.ddf_plan.specs.Changes.{changed_at}
-use Rattle.ddf_array.proofs.Bools.{and_second}
 use Rattle.ddf_data_array.specs.Allowed.{Allowed, once_written, while_written}
 use Rattle.ddf_data_group.specs.Grouped.{Promises}
 use Rattle.ddf_data_group.specs.Kept.{KeepsArray}
@@ -33,9 +34,6 @@ use Rattle.ddf_stage_promise.proofs.Losing.{lost_keeps, lost_shows}
 use Rattle.ddf_stage_promise.proofs.Plain.{closed_keeps, closed_shows}
 use Rattle.ddf_stage_promise.proofs.Steps.{loss_keeps, plain_keeps, records_keep, records_show, return_keeps, shown_keep, shown_show, staged_keeps}
 use Rattle.ddf_stage_promise.proofs.Writing.{writing_keeps, writing_shows, written_keeps}
-
-none_some : {X : Type 0} (o : Option X) (x : X) → o ≡ None → o ≡ Some x → ⊥
-none_some o x a b = cc
 
 module _ (group : List ℕ) (footing : Footing) (small : (slot : ℕ) → footing.floor slot < 2 ^ 64) (past_floors : LiePastFloors footing) where
   moved : (new : Moment group) (past : Past (groups group)) (image : Image) (promises : Promises) → new.past ≡ past → new.image ≡ image → new.promises ≡ promises → KeepsShown group footing past image promises → Keeps group footing new

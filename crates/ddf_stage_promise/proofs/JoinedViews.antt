@@ -5,6 +5,9 @@ use Rattle.std.specs.List.{cons_option, flat_map, list_all, list_any}
 use Rattle.std.specs.Map.{lookup}
 use Rattle.std.proofs.lemmas.Bool.{eqb-true}
 use Rattle.std.proofs.lemmas.List.Sums.{sum_by-append, sum_by-cons}
+use Rattle.ddf_lemmas.proofs.Lists.{in_map, last_found, map_alike}
+use Rattle.ddf_lemmas.proofs.Options.{none_from_map, none_from_not_some, some_is}
+use Rattle.ddf_lemmas.proofs.Tests.{or_second}
 use Rattle.ddf_primary.specs.Placement.{Placement}
 use Rattle.ddf_secondary.specs.Arrangement.{Arrangement}
 use Rattle.ddf_config.specs.declared.array.Array.{Array}
@@ -32,32 +35,19 @@ use Rattle.ddf_config.proofs.Firsts.{all_pass}
 use Rattle.ddf_import.specs.Clash.{array_clash, bound, bound_in, disk_clash, is_there, join_cause, takes_name}
 use Rattle.ddf_import.specs.Joined.{arrays_joined, kept_member, kept_members, members_joined, number_of, numbered, numbers_of}
 use Rattle.ddf_repair.proofs.Numbers.{AreSame, KeepsNumbers, numbers_kept, tiers_kept}
+use Rattle.ddf_repair.proofs.Usable.{all_stay}
 use Rattle.ddf_array.specs.declared.part.Part.{Part}
 use Rattle.ddf_array.specs.declared.place.Place.{Place}
 use Rattle.ddf_array.specs.Viewing.{known_part, parts_of, place_of, seat_slot, view_by, view_of, viewed}
 use Rattle.ddf_array.specs.Volume.{Volume, volume}
-use Rattle.ddf_array.proofs.Consistent.{to_flat}
-use Rattle.ddf_cells.proofs.Lists.{in_flat, in_map}
-use Rattle.ddf_data_array.proofs.Ranges.{map_in}
+use Rattle.ddf_array.proofs.Consistent.{to_flat, in_flat}
 use Rattle.ddf_data_group.specs.Agreeing.{AgreeOn}
 use Rattle.ddf_data_group.specs.Clearing.{IsSameButMark}
 use Rattle.ddf_data_group.proofs.Apart.{entry_of}
-use Rattle.ddf_stage_promise.proofs.LostViews.{all_stay, numbers_same}
+use Rattle.ddf_stage_promise.proofs.LostViews.{numbers_same}
 use Rattle.ddf_stage_promise.proofs.Remains.{parts_stay}
 
-some_is : {X : Type 0} {a b : X} → Some a ≡ Some b → a ≡ b
-some_is e = cc
-
 -- ---- lists
-
-last_found : {X : Type 0} (test : ℕ → Bool) (entries others : List (ℕ × X)) → lookup test entries ≡ None → lookup test (entries ++ others) ≡ lookup test others
-last_found test [] others none = refl
-last_found {X = X} test (entry ∷ entries) others none = by (test entry.0) none (last_found test entries others)
-  where
-    by : (b : Bool) → cond b (Some entry.1) (lookup test entries) ≡ None → (lookup test entries ≡ None → lookup test (entries ++ others) ≡ lookup test others)
-        → cond b (Some entry.1) (lookup test (entries ++ others)) ≡ lookup test others
-    by true e rest = absurd (cc)
-    by false e rest = rest e
 
 all_same : {X : Type 0} (p q : X → Bool) (xs : List X) → ((k : ℕ) (x : X) → slice_get xs k ≡ Some x → p x ≡ q x) → list_all p xs ≡ list_all q xs
 all_same p q [] same = refl
@@ -103,14 +93,6 @@ free_by (Some other) p e none = absurd (cc)
 free_of : (own others : List (ℕ × Member)) (one : Extent) → bound own others one ≡ None → lookup (nat_eq one.reference) own ≡ None → lookup (nat_eq one.reference) others ≡ None
 free_of own others one e none = free_by (lookup (nat_eq one.reference) own) (lookup (nat_eq one.reference) others) e none
 
-not_some : {X : Type 0} (o : Option X) → is_some o ≡ false → o ≡ None
-not_some None e = refl
-not_some (Some x) e = absurd (cc)
-
-or_second : (a b : Bool) → (a || b) ≡ false → b ≡ false
-or_second true b e = absurd (cc)
-or_second false b e = e
-
 -- a joining member is none of the other side
 no_member : (own joining : List (ℕ × Member)) → find (is_there own) joining ≡ None → (reference : ℕ) (member : Member) → lookup (nat_eq reference) joining ≡ Some member → lookup (nat_eq reference) own ≡ None
 no_member own [] none reference member at = absurd (cc)
@@ -122,12 +104,8 @@ no_member own (entry ∷ joining) none reference member at = by (is_there own en
         → lookup (nat_eq reference) own ≡ None
     by true is e c same at rest = absurd (cc)
     by false is e true same at rest =
-        ap (λ (n : ℕ). lookup (nat_eq n) own) (eqb-true reference entry.0 same) ∙ not_some (lookup (nat_eq entry.0) own) (or_second _ (is_some (lookup (nat_eq entry.0) own)) is)
+        ap (λ (n : ℕ). lookup (nat_eq n) own) (eqb-true reference entry.0 same) ∙ none_from_not_some (lookup (nat_eq entry.0) own) (or_second _ (is_some (lookup (nat_eq entry.0) own)) is)
     by false is e false same at rest = rest e reference member at
-
-find_none : {X Y : Type 0} (f : X → Y) (o : Option X) → option_map f o ≡ None → o ≡ None
-find_none f None e = refl
-find_none f (Some x) e = absurd (cc)
 
 -- ---- what joins
 
@@ -135,7 +113,7 @@ module _ (config joining next : Configuration) (free : join_cause config joining
     (arrays : next.arrays ≡ with_low_states (members_joined config joining) (arrays_joined config joining)) where
   no_disk : find (is_there config.members) joining.members ≡ None
   no_disk =
-      find_none _ (find (is_there config.members) joining.members)
+      none_from_map _ (find (is_there config.members) joining.members)
       (all_pass [] (disk_clash config.members joining.members)
       (array_clash config.arrays joining.arrays ∷ bound_in config joining ∷ bound_in joining config ∷ refuse_if (takes_name config joining) NameTaken ∷ []) free)
 
@@ -281,7 +259,7 @@ module _ (config joining next : Configuration) (free : join_cause config joining
     parts_agree n (None ∷ elements) slots = parts_agree n elements (λ k j element position at there. slots (suc k) j element position at there)
     parts_agree n (Some element ∷ elements) slots =
         ap (λ (l : List Place). cons_option (option_map (λ (shape : Placement). record { shape = shape; places = l }) (element_shape n element)) (filter_map (known_part other n) elements))
-        (map_in (place_of other element.blocks) (place_of seats element.blocks) element.positions (λ j position at. place_agrees element.blocks position (slots 0 j element position refl at)))
+        (map_alike (place_of other element.blocks) (place_of seats element.blocks) element.positions (λ j position at. place_agrees element.blocks position (slots 0 j element position refl at)))
         ∙ ap (cons_option (option_map (λ (shape : Placement). record { shape = shape; places = map (place_of seats element.blocks) element.positions }) (element_shape n element)))
         (parts_agree n elements (λ k j element position at there. slots (suc k) j element position at there))
 

@@ -3,6 +3,7 @@ use Rattle.std.proofs.Common.{◌≡◌, ◌∙◌, inl, inr, ⊎_elim, ℕ, ◌
 use Rattle.std.specs.Prelude.{find, slice_index_or}
 use Rattle.std.specs.Map.{lookup}
 use Rattle.std.proofs.lemmas.Option.{slice_get_within}
+use Rattle.ddf_lemmas.proofs.Options.{none_some}
 use Rattle.ddf_bay.specs.Sectors.{Image}
 use Rattle.ddf_config.specs.declared.array.Array.{Array}
 use Rattle.ddf_config.specs.declared.refusal.Refusal.{Refusal}
@@ -43,9 +44,6 @@ use Rattle.ddf_stage_promise.proofs.Cells.{are_cells, found_cell}
 use Rattle.ddf_stage_promise.proofs.Desks.{all_none, desk_before}
 use Rattle.ddf_stage_promise.proofs.Laying.{laid_none, laid_some}
 use Rattle.ddf_stage_promise.proofs.Losing.{names_none, through_none, through_some}
-
-none_some : {X : Type 0} (o : Option X) (x : X) → o ≡ None → o ≡ Some x → ⊥
-none_some o x a b = cc
 
 -- ---- the sectors of what is staged
 

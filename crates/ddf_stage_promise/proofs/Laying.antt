@@ -2,6 +2,7 @@
 use Rattle.std.proofs.Common.{◌≡◌, ◌∙◌, ◌⊎◌, inl, inr, ⊎_elim, ℕ, List, Option, Some, None, Ok, refl, sym, ap, subst, length}
 use Rattle.std.specs.Prelude.{find}
 use Rattle.std.specs.Map.{lookup}
+use Rattle.ddf_lemmas.proofs.Options.{none_some, some_is, same_some}
 use Rattle.ddf_bay.specs.Sectors.{Image}
 use Rattle.ddf_config.specs.declared.array.Array.{Array}
 use Rattle.ddf_config.specs.declared.seat.Seat.{Seat}
@@ -20,16 +21,11 @@ use Rattle.ddf_data_group.proofs.Clearly.{used}
 use Rattle.ddf_stage.specs.declared.desk.StageCell.{StageCell}
 use Rattle.ddf_stage.specs.declared.desk.Staged.{Staged}
 use Rattle.ddf_stage.specs.Laid.{is_at, laid, sector_of}
+use Rattle.ddf_data_history.proofs.Viewed.{over_unique}
 use Rattle.ddf_stage_promise.specs.Cells.{cells_of}
-use Rattle.ddf_stage_promise.proofs.Between.{ArraysRemain, arrays_between, over_unique, same_array}
+use Rattle.ddf_stage_promise.proofs.Between.{ArraysRemain, arrays_between}
 use Rattle.ddf_stage_promise.proofs.Cells.{are_cells, fewer_is, found_cell, found_same}
 use Rattle.ddf_stage_promise.proofs.Remains.{Remains}
-
-some_is : {X : Type 0} {a b : X} → Some a ≡ Some b → a ≡ b
-some_is e = cc
-
-none_some : {X : Type 0} (o : Option X) (x : X) → o ≡ None → o ≡ Some x → ⊥
-none_some o x a b = cc
 
 pub laid_none : (staged : Staged) (cells : List StageCell) (image : Image) (s l : ℕ) → find (is_at s l) cells ≡ None → laid staged cells image s l ≡ image s l
 laid_none staged cells image s l e = ap (λ (o : Option StageCell). elim o [ None ↦ image s l | Some cell ↦ sector_of staged cell ]) e
@@ -87,7 +83,7 @@ view_remains before after seats fewer remain guid v w view known after_view w_kn
     let was = remain guid use_of.array use_of.is_found in
     let from = was.2 w use_of.over in
     let old = used before guid seats v view known in
-    let arrays : old.array ≡ was.0 = same_array (lookup (same_guid guid) before.arrays) old.array was.0 old.is_found was.1 in
+    let arrays : old.array ≡ was.0 = same_some (lookup (same_guid guid) before.arrays) old.array was.0 old.is_found was.1 in
     let same : from.0 ≡ v = over_unique seats was.0 from.0 v from.1 (subst (λ (a : Array). IsOver seats a v) arrays old.over) in
     subst (λ (u : Volume). Remains u w) same from.2
 
@@ -98,7 +94,7 @@ module _ (before after : Configuration) (seats fewer : List Seat) (are : AreCurr
   its_own : (u : Volume) (array : Array) → lookup (same_guid guid) after.arrays ≡ Some array → IsOver fewer array u → u ≡ w
   its_own u array found over =
       let use_of = used after guid fewer w after_view w_known in
-      let arrays : use_of.array ≡ array = same_array (lookup (same_guid guid) after.arrays) use_of.array array use_of.is_found found in
+      let arrays : use_of.array ≡ array = same_some (lookup (same_guid guid) after.arrays) use_of.array array use_of.is_found found in
       over_unique fewer array u w over (subst (λ (a : Array). IsOver fewer a w) arrays use_of.over)
 
   pub laid_between : ((s l : ℕ) → Below s l → find (is_at s l) (cells_of v staged.gate) ≡ None → one s l ≡ other s l) → KeepsArrays after fewer (laid staged (cells_of v staged.gate) one) promises

@@ -29,7 +29,7 @@ use Rattle.ddf_plan.specs.Changes.{changed_at}
 use Rattle.ddf_plan.specs.Lose.{has_part_within, is_among, lost_array, lost_element, lost_parts, lost_position, lost_stand_in, out_beyond, out_of_sync, wholly_out}
 use Rattle.ddf_plan.specs.Members.{members_after}
 use Rattle.ddf_repair.proofs.Numbers.{AreSame, KeepsNumbers, numbers_kept, tiers_kept}
-use Rattle.ddf_repair.proofs.Usable.{all_lie_kept, both_changed, looked_up}
+use Rattle.ddf_repair.proofs.Usable.{all_lie_kept, both_changed, looked_up, all_stay}
 use Rattle.ddf_array.specs.Losing.{AreFewer}
 use Rattle.ddf_array.specs.Viewing.{parts_of, view_by, view_of, viewed, known_part}
 use Rattle.ddf_array.specs.Volume.{Volume, volume}
@@ -152,12 +152,6 @@ lookup_none k test (entry ∷ es) e = by (test entry.0) e (lookup_none k test es
         → cond b (Some (k entry.0 entry.1)) (lookup test (changed_entries (λ g a. Some (k g a)) es)) ≡ None
     by true e rest = absurd (cc)
     by false e rest = rest e
-
-pub all_stay : (k : List ℕ → Array → Array) → ((guid : List ℕ) (array : Array) → array_extents (k guid array) ≡ array_extents array) → (es : List (List ℕ × Array)) → extents (changed_entries (λ g a. Some (k g a)) es) ≡ extents es
-all_stay k stay [] = refl
-all_stay k stay (e ∷ es) =
-    ap (λ own. own ++ extents (changed_entries (λ g a. Some (k g a)) es)) (stay e.0 e.1)
-    ∙ ap (λ rest. array_extents e.1 ++ rest) (all_stay k stay es)
 
 module _ (before : Configuration) (references : List ℕ) (sequence : ℕ) where
   abbrev made : List ℕ → Array → Array

@@ -1,6 +1,7 @@
 -- Gates that are closed without cells, or that count for nothing, change nothing of what the group keeps.
 use Rattle.std.proofs.Common.{◌≡◌, ◌∙◌, ◌⊎◌, ⊎_elim, ℕ, zero, suc, ◌+◌, ◌<◌, ◌^◌, Bool, true, false, List, [], ◌∷◌, Option, Some, None, Result, Err, refl, sym, ap, subst, arith, length, slice_get}
 use Rattle.std.specs.Prelude.{find, slice_index_or, ◌-◌, if◌then◌else◌}
+use Rattle.ddf_lemmas.proofs.Options.{none_some, some_is}
 use Rattle.ddf_bay.specs.Sectors.{Image}
 use Rattle.ddf_config.specs.declared.refusal.Refusal.{Refusal}
 use Rattle.ddf_config.specs.Configuration.{Configuration}
@@ -33,9 +34,6 @@ use Rattle.ddf_stage_promise.proofs.Laying.{laid_none, laid_some}
 use Rattle.ddf_stage_promise.proofs.Losing.{names_none, through_none, through_some}
 use Rattle.ddf_stage_promise.proofs.Steps.{same_low}
 
-none_some : {X : Type 0} (o : Option X) (x : X) → o ≡ None → o ≡ Some x → ⊥
-none_some o x a b = cc
-
 -- ---- gates that count for nothing
 
 module _ (group : List ℕ) (footing : Footing) (small : (slot : ℕ) → footing.floor slot < 2 ^ 64) (past : Past (groups group)) (before image : Image) (are : AreSectors image) (promises : Promises)
@@ -57,9 +55,6 @@ module _ (group : List ℕ) (footing : Footing) (small : (slot : ℕ) → footin
       (kept lost stay number config since)))
 
 -- ---- closing without cells
-
-some_is : {X : Type 0} {a b : X} → Some a ≡ Some b → a ≡ b
-some_is e = cc
 
 module _ (group : List ℕ) (footing : Footing) (small : (slot : ℕ) → footing.floor slot < 2 ^ 64) (past_floors : LiePastFloors footing) (past : Past (groups group)) (alone : AreAlone group past)
     (number : ℕ) (config : Configuration) (since : IsSince past.changes number config) (only : (n : ℕ) (c : Configuration) → IsSince past.changes n c → (n ≡ number) × (c ≡ config))

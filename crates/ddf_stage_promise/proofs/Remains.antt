@@ -3,6 +3,7 @@ use Rattle.std.proofs.Common.{◌≡◌, ◌∙◌, ◌⊎◌, inl, inr, ⊎_eli
 use Rattle.std.specs.Prelude.{option_map, option_and_then, if◌then◌else◌}
 use Rattle.std.specs.List.{cons_option}
 use Rattle.std.specs.Result.{result_ok}
+use Rattle.ddf_lemmas.proofs.Options.{some_is}
 use Rattle.ddf_primary.specs.Placement.{Placement}
 use Rattle.ddf_primary.specs.Levels.{shape_of}
 use Rattle.ddf_primary.specs.Cells as cells_of
@@ -28,9 +29,6 @@ use Rattle.ddf_cells.proofs.OnCells.{Sits, one_place, spot_of}
 use Rattle.ddf_cells.proofs.Surely.{of_place}
 use Rattle.ddf_data_array.specs.Fewer.{ArePlaces}
 use Rattle.ddf_data_group.proofs.Lessened.{slot_lost}
-
-some_is : {X : Type 0} {a b : X} → Some a ≡ Some b → a ≡ b
-some_is e = cc
 
 -- ---- places
 

@@ -17,7 +17,7 @@ use Rattle.ddf_data_group.specs.Grouped.{KeepsArrays, Promises}
 use Rattle.ddf_data_group.proofs.Keeping.{kept_fewer}
 use Rattle.ddf_history.specs.Issued.{Past, IsSince}
 use Rattle.ddf_history.specs.Groups.{groups}
-use Rattle.ddf_data_history.proofs.Returned.{view_over}
+use Rattle.ddf_data_group.proofs.Common.{view_over}
 use Rattle.ddf_data_history.proofs.Steps.{seats_are}
 use Rattle.ddf_stage_data.specs.Moments.{through}
 use Rattle.ddf_stage_promise.specs.Cells.{cells_in}

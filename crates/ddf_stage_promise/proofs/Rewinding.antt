@@ -1,14 +1,13 @@
 -- An array whose rebuild rows are set back keeps its data, and has none.
-use Rattle.std.proofs.Common.{◌≡◌, ◌∙◌, inl, inr, ℕ, zero, suc, Bool, List, [], ◌∷◌, Option, Some, None, refl, sym, ap, subst, map, slice_get}
+use Rattle.std.proofs.Common.{◌≡◌, ◌∙◌, inr, ℕ, zero, suc, Bool, List, [], ◌∷◌, Option, Some, None, refl, sym, ap, subst, map, slice_get}
 use Rattle.std.specs.Prelude.{option_map}
 use Rattle.ddf_bay.specs.Sectors.{Image}
 use Rattle.ddf_config.specs.declared.array.Array.{Array}
-use Rattle.ddf_config.specs.declared.element.Position.{Position}
 use Rattle.ddf_config.specs.declared.member.Member.{Member}
 use Rattle.ddf_config.specs.declared.seat.Seat.{Seat}
 use Rattle.ddf_config.specs.ElementValue.{ElementValue}
 use Rattle.ddf_config.specs.Members.{is_current}
-use Rattle.ddf_plan.specs.Mark.{without_row, without_rows}
+use Rattle.ddf_plan.specs.Mark.{without_rows}
 use Rattle.ddf_array.specs.declared.place.Place.{Place}
 use Rattle.ddf_array.specs.Losing.{AreFewer}
 use Rattle.ddf_array.specs.Viewing.{place_of}
@@ -16,28 +15,16 @@ use Rattle.ddf_array.specs.Volume.{Volume}
 use Rattle.ddf_data_array.specs.Allowed.{Allowed}
 use Rattle.ddf_data_array.specs.Rows.{HasNoRows}
 use Rattle.ddf_data_group.specs.Kept.{KeepsArray}
-use Rattle.ddf_data_group.specs.Lessening.{AllStay, AreLessParts, AreLessPositions, AreStaying, IsLessArray}
+use Rattle.ddf_data_group.specs.Lessening.{AllStay, AreStaying, IsLessArray}
 use Rattle.ddf_data_group.specs.Over.{AreCurrentSeats, IsOver}
 use Rattle.ddf_data_group.proofs.Keeping.{kept_staying}
 use Rattle.ddf_data_group.proofs.Parts.{of_part}
+use Rattle.ddf_data_group.proofs.Marked.{element_without, no_row}
+use Rattle.ddf_data_group.proofs.Named.{parts_without, positions_stay}
 use Rattle.ddf_stage_promise.specs.Rewinding.{set_back}
-
-positions_without : (positions : List Position) → AreLessPositions positions (map without_row positions)
-positions_without [] = tt
-positions_without (position ∷ positions) = (inr (refl, refl, refl, inl refl), positions_without positions)
-
-parts_without : (known : List (Option ElementValue)) → AreLessParts known (map (option_map without_rows) known)
-parts_without [] = tt
-parts_without (None ∷ known) = (tt, parts_without known)
-parts_without (Some element ∷ known) =
-    (record { same_level = refl; same_qualifier = refl; same_strip = refl; same_blocks = refl; less = positions_without element.positions }, parts_without known)
 
 back_less : (array : Array) → IsLessArray array (set_back array)
 back_less array = record { same_secondary = refl; mark_is = inr refl; less = parts_without array.elements }
-
-staying_without : (c : ℕ → Bool) (positions : List Position) → AreStaying c positions (map without_row positions)
-staying_without c [] = tt
-staying_without c (position ∷ positions) = (inr (refl, refl, refl), staying_without c positions)
 
 stays_without : (c : ℕ → Bool) (known : List (Option ElementValue)) → AllStay c known (map (option_map without_rows) known)
 stays_without c [] k before after at there = absurd (cc)
@@ -45,7 +32,7 @@ stays_without c (None ∷ known) zero before after at there = absurd (cc)
 stays_without c (Some one ∷ known) zero before after at there =
     let same : one ≡ before = cc in
     let made : without_rows one ≡ after = cc in
-    subst (λ (x : ElementValue). AreStaying c x.positions after.positions) same (subst (λ (x : ElementValue). AreStaying c one.positions x.positions) made (staying_without c one.positions))
+    subst (λ (x : ElementValue). AreStaying c x.positions after.positions) same (subst (λ (x : ElementValue). AreStaying c one.positions x.positions) made (positions_stay c one.positions))
 stays_without c (part ∷ known) (suc k) before after at there = stays_without c known k before after at there
 
 pub back_keeps : (members after_members : List (ℕ × Member)) (seats fewer : List Seat) (array : Array) (image : Image) (allowed : Allowed)
@@ -55,19 +42,6 @@ back_keeps members after_members seats fewer array image allowed current are few
     kept_staying members after_members seats fewer array (set_back array) image allowed current are few (back_less array) (stays_without (is_current members) array.elements) kept
 
 -- ---- no rows are left
-
-element_without : (was : List (Option ElementValue)) (k : ℕ) (element : ElementValue) → slice_get (map (option_map without_rows) was) k ≡ Some (Some element)
-    → (one : ElementValue) × (element ≡ without_rows one)
-element_without [] k element at = absurd (cc)
-element_without (None ∷ was) zero element at = absurd (cc)
-element_without (Some one ∷ was) zero element at = let same : without_rows one ≡ element = cc in (one, sym same)
-element_without (part ∷ was) (suc k) element at = element_without was k element at
-
-no_row : (seats : List Seat) (blocks : ℕ) (positions : List Position) (j : ℕ) (place : Place) → slice_get (map (place_of seats blocks) (map without_row positions)) j ≡ Some place → place.row ≡ 0
-no_row seats blocks [] j place at = absurd (cc)
-no_row seats blocks (one ∷ positions) zero place at =
-    let same : place_of seats blocks (without_row one) ≡ place = cc in ap (λ (x : Place). x.row) (sym same)
-no_row seats blocks (one ∷ positions) (suc j) place at = no_row seats blocks positions j place at
 
 pub back_none : (array : Array) (seats : List Seat) (v : Volume) → IsOver seats (set_back array) v → HasNoRows v
 back_none array seats v over k j part place part_at place_at =

@@ -1,5 +1,6 @@
 -- Where no gate stands open none does behind what leaves the gates as they are.
 use Rattle.std.proofs.Common.{◌≡◌, ⊎_elim, ℕ, ◌+◌, ◌≤◌, Bool, true, List, Option, Some, None, refl, sym, subst, arith, slice_get}
+use Rattle.ddf_lemmas.proofs.Options.{none_some}
 use Rattle.ddf_bay.specs.Sectors.{Image}
 use Rattle.ddf_config.specs.Configuration.{Configuration}
 use Rattle.ddf_history.specs.Groups.{groups}
@@ -13,9 +14,6 @@ use Rattle.ddf_stage_promise.specs.Staged.{NoneOpen, arrays_by, arrays_on, desks
 use Rattle.ddf_stage_promise.proofs.Closing.{shows_some}
 use Rattle.ddf_stage_promise.proofs.Desks.{desk_before, desk_of}
 use Rattle.ddf_stage_promise.proofs.Losing.{shut_for}
-
-none_some : (o : Option Staged) (x : Staged) → o ≡ None → o ≡ Some x → ⊥
-none_some o x a b = cc
 
 is_none : (o : Option Staged) → ((shown : Staged) → o ≡ Some shown → ⊥) → o ≡ None
 is_none None never = refl

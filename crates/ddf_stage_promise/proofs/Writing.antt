@@ -3,9 +3,10 @@ use Rattle.std.proofs.Common.{◌≡◌, ◌≢◌, ◌∙◌, ◌⊎◌, inl, i
 use Rattle.std.specs.Prelude.{find, if◌then◌else◌}
 use Rattle.std.specs.Map.{lookup}
 use Rattle.std.proofs.lemmas.Bool.{eq-eqb}
+use Rattle.ddf_lemmas.proofs.Options.{none_some, some_is, same_some}
+use Rattle.ddf_lemmas.proofs.Tests.{true_false}
 use Rattle.ddf_bay.specs.Sectors.{Image}
 use Rattle.ddf_config.specs.declared.array.Array.{Array}
-use Rattle.ddf_config.specs.declared.element.Position.{Position}
 use Rattle.ddf_config.specs.declared.refusal.Refusal.{Refusal}
 use Rattle.ddf_config.specs.declared.seat.Seat.{Seat}
 use Rattle.ddf_config.specs.Configuration.{Configuration}
@@ -25,7 +26,7 @@ use Rattle.ddf_data_array.proofs.Same.{kept_same}
 use Rattle.ddf_data_group.specs.Grouped.{KeepsArrays, Promises}
 use Rattle.ddf_data_group.specs.Lessening.{AllStay, AreStaying}
 use Rattle.ddf_data_group.specs.Over.{AreCurrentSeats, IsOver, absent_in}
-use Rattle.ddf_data_group.proofs.Clearly.{lies_of, used}
+use Rattle.ddf_data_group.proofs.Clearly.{used}
 use Rattle.ddf_data_group.proofs.Entries.{guid_is}
 use Rattle.ddf_data_group.proofs.Lessened.{lessened}
 use Rattle.ddf_data_group.proofs.LessRows.{rows_left}
@@ -34,13 +35,15 @@ use Rattle.ddf_history.specs.Groups.{groups}
 use Rattle.ddf_history.specs.Issued.{Past, IsSince}
 use Rattle.ddf_data_history.specs.Promised.{AreAlone, KeepsData, with_promise}
 use Rattle.ddf_data_history.proofs.Steps.{seats_are}
-use Rattle.ddf_data_history.proofs.Viewed.{are_members}
+use Rattle.ddf_data_history.proofs.Viewed.{are_members, over_unique}
 use Rattle.ddf_stage.specs.declared.desk.Desk.{Desk}
 use Rattle.ddf_stage.specs.declared.desk.StageCell.{StageCell}
 use Rattle.ddf_stage.specs.declared.desk.Staged.{Staged}
 use Rattle.ddf_stage.specs.Desks.{HasDesk}
 use Rattle.ddf_stage.specs.Laid.{first_open, is_at, laid, on_desk, sector_of}
 use Rattle.ddf_stage.specs.Staging.{IsCell, IsThere}
+use Rattle.ddf_rebuild.proofs.Aiming.{cell_lies}
+use Rattle.ddf_data_group.proofs.Keeping.{same_element, stay_position}
 use Rattle.ddf_stage_data.specs.Moments.{AreAlikeCells, AreItsDesks, IsDeskSector, IsMoment, through, value_of}
 use Rattle.ddf_stage_data.proofs.Laid.{found_at, laid_is_staged, some_found}
 use Rattle.ddf_stage_data.proofs.Whole as whole
@@ -50,7 +53,7 @@ use Rattle.ddf_stage_promise.specs.Closing.{LiePastFloors}
 use Rattle.ddf_stage_promise.specs.Footing.{Footing, desk_at}
 use Rattle.ddf_stage_promise.specs.Staged.{KeepsStaged, NoneOpen, ShowsOne, arrays_on, desks_on, laid_over, losing, seats_on}
 use Rattle.ddf_stage_promise.specs.Writing.{MayBeStaged}
-use Rattle.ddf_stage_promise.proofs.Between.{aside, over_unique, same_array}
+use Rattle.ddf_stage_promise.proofs.Between.{aside}
 use Rattle.ddf_stage_promise.proofs.Cells.{are_cells, found_cell, found_same}
 use Rattle.ddf_stage_promise.proofs.Closing.{shows_some}
 use Rattle.ddf_stage_promise.proofs.Desks.{all_none, desk_before, desk_of, same_desk, to_desk}
@@ -61,24 +64,7 @@ use Rattle.ddf_stage_promise.proofs.Losing.{through_none, through_some}
 use Rattle.ddf_stage_promise.proofs.Remains.{Remains, cell_up, lay, place_up}
 use Rattle.ddf_stage_promise.proofs.Steps.{lies_low, plain_keeps, staged_keeps}
 
-some_is : {X : Type 0} {a b : X} → Some a ≡ Some b → a ≡ b
-some_is e = cc
-
-none_some : {X : Type 0} (o : Option X) (x : X) → o ≡ None → o ≡ Some x → ⊥
-none_some o x a b = cc
-
-true_false : (b : Bool) → b ≡ true → b ≡ false → ⊥
-true_false b x y = cc
-
 -- ---- an array stays the same
-
-stay_position : (c : ℕ → Bool) (positions : List Position) → AreStaying c positions positions
-stay_position c [] = tt
-stay_position c (position ∷ positions) = (inr (refl, refl, refl), stay_position c positions)
-
-same_element : (o : Option (Option ElementValue)) (one other : ElementValue) → o ≡ Some (Some one) → o ≡ Some (Some other) → one ≡ other
-same_element None one other a b = absurd (cc)
-same_element (Some found) one other a b = cc
 
 all_stay : (c : ℕ → Bool) (array : Array) → AllStay c array.elements array.elements
 all_stay c array k one other a b = subst (λ (x : ElementValue). AreStaying c one.positions x.positions) (same_element (slice_get array.elements k) one other a b) (stay_position c one.positions)
@@ -132,7 +118,7 @@ module _ (group : List ℕ) (footing : Footing) (small : (slot : ℕ) → footin
   cell_low : (s l : ℕ) → IsCellOf v s l → l < footing.floor s
   cell_low s l cell =
       let use_of = used config staged.gate.array seats v view v_known in
-      (lies_low group footing small past config use_of.array v use_of.over cell.element cell.position cell.sector s l (lies_of v s l cell)).low
+      (lies_low group footing small past config use_of.array v use_of.over cell.element cell.position cell.sector s l (cell_lies v s l cell)).low
 
   -- a desk is one of those that are used, or shows nothing
   its_desk : (k : ℕ) (desk : Desk) → slice_get all k ≡ Some desk → ((j : ℕ) × (slice_get desks j ≡ Some desk)) ⊎ (on_desk arrays image desk ≡ None)
@@ -210,7 +196,7 @@ module _ (group : List ℕ) (footing : Footing) (small : (slot : ℕ) → footin
       v_over : IsOver seats array v
       v_over =
           let use_of = used config staged.gate.array seats v view v_known in
-          subst (λ (a : Array). IsOver seats a v) (same_array (lookup (same_guid staged.gate.array) config.arrays) use_of.array array use_of.is_found found) use_of.over
+          subst (λ (a : Array). IsOver seats a v) (same_some (lookup (same_guid staged.gate.array) config.arrays) use_of.array array use_of.is_found found) use_of.over
 
       few_of : IsFewer v w
       few_of =
@@ -236,7 +222,7 @@ module _ (group : List ℕ) (footing : Footing) (small : (slot : ℕ) → footin
       desk_here : (s l : ℕ) → IsCellOf w s l → HasDesk here s
       desk_here s l cell =
           let gate = may.gates s l (cell_up v w remains s l cell) in
-          let low = lies_low group footing small later config array w over cell.element cell.position cell.sector s l (lies_of w s l cell) in
+          let low = lies_low group footing small later config array w over cell.element cell.position cell.sector s l (cell_lies w s l cell) in
           let there = to_desk group footing later config s gate.0 low.is_its low.within gate.1 in
           record { number = there.0; desk = desk_at s gate.0; is_desk = there.1; on_slot = refl }
 
@@ -306,7 +292,7 @@ module _ (group : List ℕ) (footing : Footing) (small : (slot : ℕ) → footin
     w_over : (array : Array) → lookup (same_guid staged.gate.array) config.arrays ≡ Some array → IsOver left array w
     w_over array found =
         let use_of = used config staged.gate.array left w w_view w_known in
-        subst (λ (a : Array). IsOver left a w) (same_array (lookup (same_guid staged.gate.array) config.arrays) use_of.array array use_of.is_found found) use_of.over
+        subst (λ (a : Array). IsOver left a w) (same_some (lookup (same_guid staged.gate.array) config.arrays) use_of.array array use_of.is_found found) use_of.over
 
     and_both : (a b : Bool) → a ≡ true → b ≡ true → (a && b) ≡ true
     and_both true b e f = f
@@ -363,7 +349,7 @@ module _ (group : List ℕ) (footing : Footing) (small : (slot : ℕ) → footin
       its_v : IsOver seats array v
       its_v =
           let use_of = used config staged.gate.array seats v view v_known in
-          subst (λ (a : Array). IsOver seats a v) (same_array (lookup (same_guid staged.gate.array) config.arrays) use_of.array array use_of.is_found found) use_of.over
+          subst (λ (a : Array). IsOver seats a v) (same_some (lookup (same_guid staged.gate.array) config.arrays) use_of.array array use_of.is_found found) use_of.over
 
       once_kept : IsKeptData (absent_in config.members seats array.elements) v image once
       once_kept =

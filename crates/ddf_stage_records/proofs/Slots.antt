@@ -1,6 +1,8 @@
 -- What a stop leaves of slots that get new copies changes nothing of their desks.
-use Rattle.std.proofs.Common.{◌≡◌, ◌∙◌, ◌⊎◌, inl, inr, ⊎_elim, ℕ, zero, suc, ◌+◌, ◌<◌, ◌≤◌, List, [], ◌∷◌, Some, refl, sym, ap, arith, length, slice_get}
+use Rattle.std.proofs.Common.{◌≡◌, ◌∙◌, ◌⊎◌, inl, inr, ⊎_elim, ℕ, ◌+◌, ◌<◌, ◌≤◌, List, Some, refl, sym, ap, arith, length, slice_get}
 use Rattle.std.proofs.lemmas.Bool.{cases_lt}
+use Rattle.std.proofs.lemmas.Option.{slice_get_within}
+use Rattle.ddf_lemmas.proofs.Lists.{some_at_place}
 use Rattle.ddf_bay.specs.Sectors.{Image}
 use Rattle.ddf_bay.specs.State.{BayState, size_of}
 use Rattle.ddf_copy.specs.Written.{CanBeCopy}
@@ -12,16 +14,6 @@ use Rattle.ddf_update.specs.Prepared.{writes_anchor}
 use Rattle.ddf_update.specs.Update.{IsWritten}
 use Rattle.ddf_stage_records.specs.Desk.{gate_of}
 use Rattle.ddf_stage_records.proofs.Aside.{written_aside}
-
-at_place : {X : Type 0} (xs : List X) (k : ℕ) → k < length xs → (x : X) × (slice_get xs k ≡ Some x)
-at_place [] k below = absurd (omega (arith, below))
-at_place (x ∷ xs) zero below = (x, refl)
-at_place (x ∷ xs) (suc k) below = at_place xs k (omega (arith, below))
-
-within : {X : Type 0} (xs : List X) (k : ℕ) (x : X) → slice_get xs k ≡ Some x → k < length xs
-within [] k x at = absurd (cc)
-within (y ∷ xs) zero x at = omega arith
-within (y ∷ xs) (suc k) x at = omega (arith, within xs k x at)
 
 module _ {D : Type 0} (start : BayState D) (slots : List ℕ) (seat : ℕ → SlotChange) (updates : List Prepared) (image : Image) (left : IsLeftChangingAll start slots seat updates image)
     (may : MayChangeAll start slots seat updates) (counted : length updates ≡ length slots) where
@@ -55,7 +47,7 @@ module _ {D : Type 0} (start : BayState D) (slots : List ℕ) (seat : ℕ → Sl
 
   pub desk_stays : (place slot lba l : ℕ) → slice_get slots place ≡ Some slot → gate_of (size_of start slot) (seat place).new ≡ Some lba → lba ≤ l → l < lba + 18 → image slot l ≡ start.held slot l
   desk_stays place slot lba l at desk from below =
-      let update = at_place updates place (omega (arith, within slots place slot at, counted)) in
+      let update = some_at_place updates place (omega (arith, slice_get_within slots place slot at, counted)) in
       let can = can_by (seat place).mode slot (seat place) (may.may_change place slot at) in
       ⊎_elim (λ same. same)
       (λ written. absurd (⊎_elim (λ low. omega (arith, low, from)) (λ high. omega (arith, high, below))

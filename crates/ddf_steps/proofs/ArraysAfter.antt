@@ -1,15 +1,16 @@
 -- What a change makes of arrays keeps what copies can hold.
-use Rattle.std.proofs.Common.{◌≡◌, ℕ, ◌+◌, ◌*◌, ◌/◌, ◌^◌, ◌<◌, ◌≤◌, Bool, true, false, not, ◌&&◌, eqb, List, [], ◌∷◌, map, Option, Some, option_map, refl, ap, if◌then◌else◌, arith}
+use Rattle.std.proofs.Common.{◌≡◌, ℕ, ◌+◌, ◌*◌, ◌/◌, ◌^◌, ◌<◌, Bool, true, false, ◌&&◌, eqb, List, [], ◌∷◌, map, Option, Some, option_map, refl, ap, if◌then◌else◌, arith}
 use Rattle.std.specs.Prelude.{slice_get}
-use Rattle.std.specs.List.{AllByRecursion, list_any}
+use Rattle.std.specs.List.{AllByRecursion}
 use Rattle.ddf_config.specs.declared.member.Member.{Member}
 use Rattle.ddf_config.specs.declared.element.Position.{Position}
 use Rattle.ddf_config.specs.declared.array.Array.{Array}
 use Rattle.ddf_config.specs.declared.extent.Extent.{Extent}
 use Rattle.ddf_config.specs.ElementValue.{ElementValue as ElementPlan}
 use Rattle.ddf_config.specs.Entries.{changed_entries}
-use Rattle.ddf_config.specs.Within.{is_part_within, is_available, is_mirrored, is_within}
-use Rattle.ddf_config.specs.States.{array_with_low, state_with_low, takes_low_state, low_state, has_position_out}
+use Rattle.ddf_config.specs.Within.{is_part_within, is_available, is_mirrored}
+use Rattle.ddf_config.specs.States.{array_with_low, state_with_low, takes_low_state, low_state}
+use Rattle.ddf_config.proofs.Common.{low_small}
 use Rattle.ddf_plan.specs.Lose.{is_among, out_of_sync, lost_position, lost_stand_in, lost_element, lost_parts, wholly_out, out_beyond, has_part_within, lost_array}
 use Rattle.ddf_rewrite.specs.Hold.{FitsPosition}
 use Rattle.ddf_steps.proofs.HeldEntries.{IsHeldEntry, IsHeldPlan, KeepsPlans, KeepsPositions, entry_kept, mapped_held, moved_held, still_there}
@@ -91,14 +92,6 @@ lost_array_keeps members references = record {
 
 pub same_array_keeps : KeepsArrays (λ guid array. array)
 same_array_keeps = record { held = λ most guid array is. is; there = λ guid array index plan at. (plan, at) }
-
-low_small : (members : List (ℕ × Member)) (array : Array) → low_state members array ≤ 4
-low_small members array = by (not (is_within (is_available members) array)) (list_any has_position_out array.elements)
-  where
-    by : (a b : Bool) → (if a then 4 else (if b then 1 else 0)) ≤ 4
-    by true b = omega arith
-    by false true = omega arith
-    by false false = omega arith
 
 state_small : (members : List (ℕ × Member)) (all : List Extent) (array : Array) → array.state < 2 ^ 8 → state_with_low members all array < 2 ^ 8
 state_small members all array small = by (takes_low_state members all array)

@@ -1,13 +1,13 @@
 -- The newest copies of the slots once disks have their copies in both places.
 use Rattle.std.proofs.Common.{◌≡◌, ◌≢◌, ◌⊎◌, ℕ, zero, suc, ◌<◌, List, [], ◌∷◌, length, map, fold, Option, Some, refl, ap, subst, ◌∙◌, inl, inr, arith, length-set}
 use Rattle.std.proofs.lemmas.Bool.{cases_eq}
-use Rattle.std.specs.Prelude.{filter_map, slice_get, slice_set}
-use Rattle.std.specs.List.{cons_option}
+use Rattle.std.specs.Prelude.{slice_get, slice_set}
+use Rattle.ddf_lemmas.proofs.Lists.{all_from, filter_all, set_else}
 use Rattle.ddf_copy.specs.declared.newest_copy.Newest.{Newest}
 use Rattle.ddf_copy.specs.declared.newest_copy.Newest.TheVariants.{Level}
 use Rattle.ddf_config.specs.declared.seat.Seat.{Seat}
 use Rattle.ddf_config.specs.Configuration.{Configuration}
-use Rattle.ddf_rewrite.proofs.Lists.{all_at, all_by_get, all_mapped}
+use Rattle.ddf_rewrite.proofs.Lists.{all_at, all_mapped}
 use Rattle.ddf_rewrite.specs.Hold.{IsHoldable}
 use Rattle.ddf_seats.specs.declared.seated.Seated.{Seated}
 use Rattle.ddf_seats.specs.Changing.{record_length, CanBeChanged, HaveLength, IsOfGroup, SlotsRise}
@@ -23,13 +23,6 @@ set_here : {X : Type 0} (xs : List X) (i : ℕ) (x : X) → i < length xs → sl
 set_here [] i x below = absurd (omega (arith, below))
 set_here (y ∷ ys) zero x below = refl
 set_here (y ∷ ys) (suc i) x below = set_here ys i x (omega (arith, below))
-
-set_else : {X : Type 0} (xs : List X) (i j : ℕ) (x : X) → j ≢ i → slice_get (slice_set xs i x) j ≡ slice_get xs j
-set_else [] i j x differ = refl
-set_else (y ∷ ys) zero zero x differ = absurd (differ refl)
-set_else (y ∷ ys) zero (suc j) x differ = refl
-set_else (y ∷ ys) (suc i) zero x differ = refl
-set_else (y ∷ ys) (suc i) (suc j) x differ = set_else ys i j x (λ (same : j ≡ i). differ (ap suc same))
 
 -- ---- the slots of disks
 
@@ -73,13 +66,6 @@ slot_or_none (first ∷ disks) slot = elim (cases_eq slot first.seat.slot) [
 
 -- ---- the group's disks
 
-pub filter_all : {X Y Z : Type 0} (f : X → Option Y) (g : Z → X) (h : Z → Y) (zs : List Z) → ((k : ℕ) (z : Z) → slice_get zs k ≡ Some z → f (g z) ≡ Some (h z))
-    → filter_map f (map g zs) ≡ map h zs
-filter_all f g h [] each = refl
-filter_all {Y = Y} f g h (z ∷ zs) each =
-    ap (λ (found : Option Y). cons_option found (filter_map f (map g zs))) (each 0 z refl)
-    ∙ ap (λ (rest : List Y). h z ∷ rest) (filter_all f g h zs (λ k. each (suc k)))
-
 -- Those of a group to which a step was written are the step's, with their copies in both places.
 pub seated_after : (group : GroupValue) (step : Step) → SlotsRise (seats_in step.disks) → ((k : ℕ) (disk : Seated) → slice_get step.disks k ≡ Some disk → disk.seat.slot < length group.newest)
     → seated (group_after group step) ≡ map levelled step.disks
@@ -94,7 +80,7 @@ pub seats_levelled : (disks : List Seated) → seats_in (map levelled disks) ≡
 seats_levelled [] = refl
 seats_levelled (disk ∷ disks) = ap (λ (rest : List Seat). disk.seat ∷ rest) (seats_levelled disks)
 
-length_levelled : (sectors : ℕ) (disks : List Seated) → HaveLength sectors (map levelled disks) → HaveLength sectors disks
+pub length_levelled : (sectors : ℕ) (disks : List Seated) → HaveLength sectors (map levelled disks) → HaveLength sectors disks
 length_levelled sectors [] have = tt
 length_levelled sectors (disk ∷ disks) have = (have.0, length_levelled sectors disks have.1)
 
@@ -102,10 +88,10 @@ length_levelled sectors (disk ∷ disks) have = (have.0, length_levelled sectors
 pub changed_levelled : (config : Configuration) (disks : List Seated) → CanBeChanged config disks → CanBeChanged config (map levelled disks)
 changed_levelled config disks can = record {
   of_group = all_mapped (IsOfGroup config) levelled disks
-      (all_by_get (λ (disk : Seated). IsOfGroup config (levelled disk)) disks
+      (all_from (λ (disk : Seated). IsOfGroup config (levelled disk)) disks
       (λ k disk at. let is = all_at (IsOfGroup config) disks k disk can.of_group at in record { is_copy = is.is_copy; same_group = is.same_group }));
   can_hold = all_mapped (λ (disk : Seated). HaveLength (record_length disk) (map levelled disks) → IsHoldable disk.copy.header.geometry.max_members config) levelled disks
-      (all_by_get (λ (disk : Seated). HaveLength (record_length disk) (map levelled disks) → IsHoldable disk.copy.header.geometry.max_members config) disks
+      (all_from (λ (disk : Seated). HaveLength (record_length disk) (map levelled disks) → IsHoldable disk.copy.header.geometry.max_members config) disks
       (λ k disk at same.
       all_at (λ (one : Seated). HaveLength (record_length one) disks → IsHoldable one.copy.header.geometry.max_members config) disks k disk can.can_hold at
       (length_levelled (record_length disk) disks same)));

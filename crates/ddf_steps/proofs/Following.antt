@@ -2,6 +2,7 @@
 use Rattle.std.proofs.Common.{◌≡◌, ℕ, ◌+◌, ◌<◌, ◌≤◌, ◌^◌, Bool, true, false, cond, List, [], ◌∷◌, map, filter, fold, max, Some, None, sym, subst, arith}
 use Rattle.std.proofs.Math.Nat.{max-le, min-le_right}
 use Rattle.std.specs.List.{AllByRecursion}
+use Rattle.ddf_lemmas.proofs.Lists.{all_both}
 use Rattle.ddf_header.specs.declared.geometry.Geometry.{Geometry}
 use Rattle.ddf_header.specs.declared.reading.Header.{Header}
 use Rattle.ddf_header.specs.Geometry.{IsSound}
@@ -20,18 +21,18 @@ use Rattle.ddf_rewrite.specs.Hold.{IsHoldable}
 use Rattle.ddf_rewrite.proofs.Leaders.{same_members}
 use Rattle.ddf_update.specs.declared.prepared.Mode.TheVariants as modes
 use Rattle.ddf_update.specs.declared.prepared.Prepared.{Prepared}
+use Rattle.ddf_rewrite.proofs.Premises.{is_sound}
 use Rattle.ddf_seats.specs.declared.seated.Seated.{Seated}
-use Rattle.ddf_seats.specs.Seated.{seats_in, views_in, levelled}
+use Rattle.ddf_seats.specs.Seated.{seats_in, views_in}
 use Rattle.ddf_steps.specs.Steps.{Step, config_after, disks_after, in_order, mode_of, raised, rewritten, stays_in}
 use Rattle.ddf_steps.specs.Full.{full_of, full_on, full_where_written}
-use Rattle.ddf_seats.specs.Changing.{record_length, AreCopies, CanBeChanged, CanBeHeldOn, CanBeLed, HaveLength, IsOfGroup, SlotsRise}
+use Rattle.ddf_seats.specs.Changing.{record_length, AreCopies, CanBeHeldOn, CanBeLed, HaveLength, IsOfGroup, SlotsRise}
 use Rattle.ddf_steps.specs.Refusing.{most_members, room_refusal}
 use Rattle.ddf_steps.specs.Asked.{CanBeAsked}
 use Rattle.ddf_steps.specs.Ready.{ReadyStep}
 use Rattle.ddf_steps.specs.Trying.{ArePrepared, CanTry, DoShow, Follows, HasPlace, StandOn, StandStill}
 use Rattle.ddf_steps.proofs.Holdable.{change_holdable}
 use Rattle.ddf_steps.proofs.OneLength.{HasRoom, can_try_all, has_room, room_on}
-use Rattle.ddf_seats.proofs.RecordsHeld.{sound_of}
 use Rattle.ddf_steps.proofs.Refused.{none_full_of}
 use Rattle.ddf_steps.proofs.Rewritten.{changed_own, changed_places, places_under, rewritten_can, rewritten_group, rewritten_most, rewritten_shows, rewritten_under, staying_have}
 
@@ -47,7 +48,7 @@ most_within : (geometry : Geometry) (disks : List Seated) (most : ℕ) → IsSou
     → fold (λ most disk. max most disk.copy.header.geometry.max_members) most disks ≤ geometry.max_members
 most_within geometry [] most sound are same within = within
 most_within geometry (disk ∷ disks) most sound are same within =
-    let own : disk.copy.header.geometry.max_members ≡ geometry.max_members = same_members disk.copy.header.geometry geometry (sound_of disk.copy are.0) sound same.0 in
+    let own : disk.copy.header.geometry.max_members ≡ geometry.max_members = same_members disk.copy.header.geometry geometry (is_sound disk.copy are.0) sound same.0 in
     let below : disk.copy.header.geometry.max_members ≤ geometry.max_members = omega (arith, own) in
     most_within geometry disks (max most disk.copy.header.geometry.max_members) sound are.1 same.1 (max-le within below)
 
@@ -68,7 +69,7 @@ next_held config disks change copies can_hold asked free = each disks copies can
     each (disk ∷ some) are holds = (
       λ same.
           let geometry = disk.copy.header.geometry in
-          let within = most_within geometry disks 0 (sound_of disk.copy are.0) copies same (omega arith) in
+          let within = most_within geometry disks 0 (is_sound disk.copy are.0) copies same (omega arith) in
           change_holdable geometry.max_members (most_members disks) within config (holds.0 same) change (seats_in disks) (raised config.sequence (steps_of change)) asked free (raised_fits config.sequence (steps_of change)),
       each some are.1 holds.1,
     )
@@ -86,10 +87,6 @@ all_roomy : (leaders : Before) (next : Configuration) (timestamp : ℕ) (disks :
 all_roomy leaders next timestamp [] are can_try room = tt
 all_roomy leaders next timestamp (disk ∷ disks) are can_try room =
     (record { is_copy = are.0; can_try = can_try.0; room = room.0 }, all_roomy leaders next timestamp disks are.1 can_try.1 room.1)
-
-pub both_all : (P Q : Seated → Type 0) (disks : List Seated) → AllByRecursion P disks → AllByRecursion Q disks → AllByRecursion (λ disk. P disk × Q disk) disks
-both_all P Q [] first second = tt
-both_all P Q (disk ∷ disks) first second = ((first.0, second.0), both_all P Q disks first.1 second.1)
 
 module _ (leaders : Before) (config : Configuration) (timestamp : ℕ) where
   abbrev after : List Seated → List Seated
@@ -121,7 +118,7 @@ unfolding disks_after
 made_copies timestamp time leaders config disks can room =
     staying_have leaders config timestamp time (λ (disk : Seated). CanTry leaders config disk × (full_where_written leaders config timestamp disk ≡ None)) (λ (disk : Seated). CanBeCopy disk.copy)
     (λ disk stays both. rewritten_can leaders config timestamp time disk both.0 (room_on leaders config timestamp disk stays both.1))
-    disks (both_all (CanTry leaders config) (λ (disk : Seated). full_where_written leaders config timestamp disk ≡ None) disks can room)
+    disks (all_both (CanTry leaders config) (λ (disk : Seated). full_where_written leaders config timestamp disk ≡ None) disks can room)
 
 -- Where nothing is refused for want of room, there is room.
 pub room_for : (timestamp : ℕ) (config next : Configuration) (disks : List Seated) (change : Change) → next ≡ config_after config change → room_refusal timestamp config disks change ≡ None
@@ -178,13 +175,13 @@ module _ (timestamp : ℕ) (time : timestamp < 2 ^ 32) (leaders : Before) (next 
   after_places sizes places =
       staying_have leaders next timestamp time (λ (disk : Seated). IsRoomy leaders next timestamp disk × HasPlace sizes disk) (HasPlace sizes)
       (λ disk stays is. record { there = is.1.there; anchor = anchor_header (rewritten leaders next timestamp disk).copy; under = own_under disk stays is.0 _ is.1.anchor is.1.under })
-      disks (both_all (IsRoomy leaders next timestamp) (HasPlace sizes) disks roomy places)
+      disks (all_both (IsRoomy leaders next timestamp) (HasPlace sizes) disks roomy places)
 
   after_stand : (slot size : ℕ) (anchor : Header) → StandOn slot size anchor disks → StandStill slot size anchor (after leaders next timestamp disks)
   after_stand slot size anchor stand =
       staying_have leaders next timestamp time (λ (disk : Seated). IsRoomy leaders next timestamp disk × (disk.seat.slot ≡ slot → IsUnder size anchor disk.copy)) (λ (disk : Seated). disk.seat.slot ≡ slot → disk.mode ≡ modes.Change → IsUnder size anchor disk.copy)
       (λ disk stays is at changes. still_under disk stays is.0 changes size anchor (is.1 at))
-      disks (both_all (IsRoomy leaders next timestamp) (λ (disk : Seated). disk.seat.slot ≡ slot → IsUnder size anchor disk.copy) disks roomy stand)
+      disks (all_both (IsRoomy leaders next timestamp) (λ (disk : Seated). disk.seat.slot ≡ slot → IsUnder size anchor disk.copy) disks roomy stand)
 
   made_follows : (updates : List Prepared) → ArePrepared (in_order (disks_after timestamp leaders next disks)) updates
       → Follows disks (record { step = record { config = next; disks = disks_after timestamp leaders next disks }; updates = updates })
@@ -202,22 +199,3 @@ module _ (timestamp : ℕ) (time : timestamp < 2 ^ 32) (leaders : Before) (next 
   pub step_follows : (one : ReadyStep) → one.step ≡ record { config = next; disks = disks_after timestamp leaders next disks } → ArePrepared (in_order one.step.disks) one.updates → Follows disks one
   step_follows one is prepared =
       subst (λ (step : Step). ArePrepared (in_order step.disks) one.updates → Follows disks (record { step = step; updates = one.updates })) (sym is) (made_follows one.updates) prepared
-
--- ---- the disks once they were written
-
-levelled_length : (sectors : ℕ) (disks : List Seated) → HaveLength sectors (map levelled disks) → HaveLength sectors disks
-levelled_length sectors [] same = tt
-levelled_length sectors (disk ∷ disks) same = (same.0, levelled_length sectors disks same.1)
-
--- Changes may be tried on disks that were written.
-pub levelled_changed : (config : Configuration) (disks : List Seated) → CanBeChanged config disks → CanBeChanged config (map levelled disks)
-levelled_changed config disks can = record { of_group = all_of_group disks can.of_group; can_hold = all_hold disks can.can_hold }
-  where
-    all_of_group : (some : List Seated) → AllByRecursion (IsOfGroup config) some → AllByRecursion (IsOfGroup config) (map levelled some)
-    all_of_group [] of_group = tt
-    all_of_group (disk ∷ some) of_group = (record { is_copy = of_group.0.is_copy; same_group = of_group.0.same_group }, all_of_group some of_group.1)
-
-    all_hold : (some : List Seated) → AllByRecursion (λ (disk : Seated). HaveLength (record_length disk) disks → IsHoldable disk.copy.header.geometry.max_members config) some
-        → AllByRecursion (λ (disk : Seated). HaveLength (record_length disk) (map levelled disks) → IsHoldable disk.copy.header.geometry.max_members config) (map levelled some)
-    all_hold [] holds = tt
-    all_hold (disk ∷ some) holds = (λ same. holds.0 (levelled_length (record_length disk) disks same), all_hold some holds.1)

@@ -4,6 +4,7 @@ use Rattle.std.proofs.lemmas.Bool.{false≢true}
 use Rattle.std.proofs.lemmas.List.{length-map}
 use Rattle.std.specs.Prelude.{slice_get}
 use Rattle.std.specs.List.{AllByRecursion, enumerate_from}
+use Rattle.ddf_lemmas.proofs.Lists.{all_from, in_map}
 use Rattle.ddf_config_records.specs.Elements.{has_no_strip}
 use Rattle.ddf_config.specs.declared.element.Position.{Position}
 use Rattle.ddf_config.specs.declared.array.Array.{Array}
@@ -14,7 +15,7 @@ use Rattle.ddf_rewrite.specs.Hold.{FitsArray, FitsPlan, FitsPosition, IsHoldable
 use Rattle.ddf_rewrite.specs.Readable.{AreRebuilt, OneRebuilt}
 use Rattle.ddf_rewrite.specs.Wanted.{Wanted, all_wanted}
 use Rattle.ddf_rewrite.proofs.AllWanted.{is_wanted, wanted_place}
-use Rattle.ddf_rewrite.proofs.Lists.{all_at, all_by_get, map_get}
+use Rattle.ddf_rewrite.proofs.Lists.{all_at}
 
 -- ---- an entry
 
@@ -69,7 +70,7 @@ fits_plan most wanted is = record {
 }
 
 pub entries_held : (most : ℕ) (config : Configuration) → IsHoldable most config → AllByRecursion (IsHeldEntry most) config.arrays
-entries_held most config can = all_by_get (IsHeldEntry most) config.arrays (λ a entry at. record {
+entries_held most config can = all_from (IsHeldEntry most) config.arrays (λ a entry at. record {
   fits = all_at FitsArray config.arrays a entry can.can_hold.arrays at;
   readable = all_at (λ (one : List ℕ × Array). IsReadable one.1) config.arrays a entry can.readable at;
   plans = λ index plan there.
@@ -112,8 +113,8 @@ mapped_fit f keeps (position ∷ positions) all = (keeps.fits position all.0, ma
 
 mapped_rebuilt : (f : Position → Position) → KeepsPositions f → (plan : ElementPlan) → OneRebuilt plan → OneRebuilt (with_positions plan (map f plan.positions))
 mapped_rebuilt f keeps plan one i j first second at also h k =
-    let from = map_get f plan.positions i first at in
-    let other = map_get f plan.positions j second also in
+    let from = in_map f plan.positions i first at in
+    let other = in_map f plan.positions j second also in
     one i j from.0 other.0 from.1 other.1
     (keeps.no_row from.0 (ap (λ (p : Position). eqb p.row 0) from.2 ∙ h))
     (keeps.no_row other.0 (ap (λ (p : Position). eqb p.row 0) other.2 ∙ k))
@@ -166,7 +167,7 @@ module _ (k : Option ElementPlan → Option ElementPlan) (keeps : KeepsPlans k) 
 
   parts_held : (most elements : ℕ) (parts : List (Option ElementPlan)) → ArePlansHeld most elements parts → ArePlansHeld most elements (map k parts)
   parts_held most elements parts all index next at =
-      let from = map_get k parts index (Some next) at in
+      let from = in_map k parts index (Some next) at in
       let plan = from_there from.0 next from.2 in
       plan.2 most elements (all index plan.0 (from.1 ∙ ap (λ (p : Option ElementPlan). Some p) plan.1))
 

@@ -1,18 +1,18 @@
 -- A change that nothing refuses keeps what copies can hold.
 use Rattle.std.proofs.Common.{◌≡◌, ℕ, ◌^◌, ◌<◌, ◌≤◌, Bool, true, false, not, ◌||◌, cond, List, [], ◌∷◌, ◌++◌, map, filter, Some, None, is_some, option_map, nat_eq, refl, sym, ap, subst, ◌∙◌, if◌then◌else◌}
-use Rattle.std.proofs.lemmas.Bool.{false≢true, false_from_ne_true}
+use Rattle.std.proofs.lemmas.Bool.{false≢true, false_from_ne_true, not-false, or_parts}
 use Rattle.std.proofs.lemmas.List.{append-nil}
 use Rattle.std.specs.Prelude.{slice_get}
 use Rattle.std.specs.Map.{lookup}
 use Rattle.std.specs.List.{AllByRecursion, IsDistinct, cons_option, list_any}
 use Rattle.std.specs.Str.{bytes_eq}
+use Rattle.ddf_lemmas.proofs.Lists.{all_append, all_filter, bytes_same, in_map}
 use Rattle.ddf_config.specs.declared.member.Member.{Member}
 use Rattle.ddf_config.specs.declared.member.SpareUse.{SpareUse}
 use Rattle.ddf_config.specs.declared.member.SpareUse.TheVariants as uses
 use Rattle.ddf_config.specs.declared.array.Array.{Array}
 use Rattle.ddf_config.specs.declared.extent.Extent.{Extent}
 use Rattle.ddf_config.specs.declared.seat.Seat.{Seat}
-use Rattle.ddf_config.specs.declared.refusal.Refusal.{Refusal}
 use Rattle.ddf_config.specs.declared.refusal.Refusal.TheVariants.{NameTaken, NoArray, Shape, InUse, Clash}
 use Rattle.ddf_config.specs.Configuration.{Configuration}
 use Rattle.ddf_config.specs.Entries.{changed_entries}
@@ -36,11 +36,11 @@ use Rattle.ddf_plan.specs.Members.{members_after, use_after}
 use Rattle.ddf_plan.specs.Arrays.{HasNewGuid, array_after, arrays_after, kept_and_added, kept_array}
 use Rattle.ddf_plan.specs.Changes.{changed_at}
 use Rattle.ddf_plan.proofs.Afters.{is_new}
-use Rattle.ddf_view.proofs.Tests.{same_bytes, bytes_same}
+use Rattle.ddf_plan.proofs.Made.{not_refused}
+use Rattle.ddf_view.proofs.Tests.{same_bytes}
 use Rattle.ddf_rewrite.specs.Elements.{is_spare_for, no_reference}
 use Rattle.ddf_rewrite.specs.Hold.{FitsMember, IsHoldable}
 use Rattle.ddf_rewrite.specs.Readable.{HasSpares}
-use Rattle.ddf_rewrite.proofs.Lists.{all_append, map_get}
 use Rattle.ddf_rewrite.proofs.NamesCan.{own_names, own_references}
 use Rattle.ddf_steps.specs.Asked.{CanBeAsked}
 use Rattle.ddf_steps.proofs.HeldEntries.{IsHeldEntry, entries_fit, entries_held, entries_readable, entries_rebuilt, plans_held}
@@ -51,18 +51,6 @@ use Rattle.ddf_steps.proofs.NewArray.{created_held}
 use Rattle.ddf_steps.proofs.SparesAfter.{IsUseAmong, given_use, guids_end, guids_others, kept_use, no_use, others, use_ordered, use_with_new, use_without_gone}
 
 -- ---- what the causes exclude
-
-not_refused : (holds : Bool) (refusal : Refusal) → refuse_if holds refusal ≡ None → holds ≡ false
-not_refused true refusal h = absurd cc
-not_refused false refusal h = refl
-
-or_parts : (a b : Bool) → (a || b) ≡ false → (a ≡ false) × (b ≡ false)
-or_parts true b h = absurd (false≢true (sym h))
-or_parts false b h = (refl, h)
-
-not_not : (b : Bool) → not b ≡ false → b ≡ true
-not_not true h = refl
-not_not false h = absurd (false≢true (sym h))
 
 -- A new array that nothing refuses: its GUID is new, it has shapes and tiers, and no element has more members than the bound.
 record IsAllowed (bound : ℕ) (config : Configuration) (guid : List ℕ) (array : Array) : Type 0 where
@@ -98,8 +86,8 @@ create_allowed bound config seats guid array h =
           (refuse_if (is_some (lookup (same_guid guid) config.arrays)) (Clash guid))
           (refuse_first seats (is_spare_disk config) InUse (references array) ∷ [])
           h);
-      shapes = not_not (has_shapes array) both.0;
-      tiers = not_not (has_tiers array) both.1;
+      shapes = not-false (has_shapes array) both.0;
+      tiers = not-false (has_tiers array) both.1;
       few = parts.0;
     }
 
@@ -165,14 +153,6 @@ distinct_end : {X : Type 0} (eq : X → X → Bool) (xs : List X) (x : X) → Is
 unfolding IsDistinct
 distinct_end eq [] x h away = (tt, tt)
 distinct_end {X = X} eq (y ∷ ys) x h away = (all_append (λ z. eq y z ≡ false) ys (x ∷ []) h.0 (away.0, tt), distinct_end eq ys x h.1 away.1)
-
-all_filter : {X : Type 0} (P : X → Type 0) (p : X → Bool) (xs : List X) → AllByRecursion P xs → AllByRecursion P (filter p xs)
-all_filter P p [] all = tt
-all_filter P p (x ∷ xs) all = by (p x) (all_filter P p xs all.1)
-  where
-    by : (b : Bool) → AllByRecursion P (filter p xs) → AllByRecursion P (cond b (x ∷ filter p xs) (filter p xs))
-    by true rest = (all.0, rest)
-    by false rest = rest
 
 pub guids_away : (guid : List ℕ) (entries : List (List ℕ × Array)) → lookup (same_guid guid) entries ≡ None → AllByRecursion (λ (other : List ℕ). bytes_eq other guid ≡ false) (guids_of entries)
 guids_away guid [] h = tt
@@ -265,7 +245,7 @@ module _ (most bound : ℕ) (within : bound ≤ most) (config : Configuration) (
   spares_are change entries are next members arrays apart =
       let after = are_after config change in
       let made : ℕ × Member → ℕ × Member = λ entry. (entry.0, after.g entry.0 entry.1) in
-      let from = λ (i : ℕ) (one : ℕ × Member) (at : slice_get next.members i ≡ Some one). map_get made config.members i one (ap (λ (l : List (ℕ × Member)). slice_get l i) (sym (members ∙ after.are)) ∙ at) in
+      let from = λ (i : ℕ) (one : ℕ × Member) (at : slice_get next.members i ≡ Some one). in_map made config.members i one (ap (λ (l : List (ℕ × Member)). slice_get l i) (sym (members ∙ after.are)) ∙ at) in
       let use_of = λ (i : ℕ) (one : ℕ × Member) (at : slice_get next.members i ≡ Some one).
       let before = from i one at in
       let same : use_after config change before.0.0 before.0.1.spare ≡ one.1.spare = sym (after.keeps.spare before.0.0 before.0.1) ∙ ap (λ (entry : ℕ × Member). entry.1.spare) before.2 in

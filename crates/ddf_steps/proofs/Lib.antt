@@ -15,3 +15,4 @@ pub mod Ordered
 pub mod CommittedLevels
 pub mod Reached
 pub mod StepConfig
+pub mod Common

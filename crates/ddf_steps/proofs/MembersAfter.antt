@@ -22,7 +22,7 @@ pub record AreAfter (config : Configuration) (change : Change) : Type 0 where
   pub are : members_after config change ≡ map (λ (entry : ℕ × Member). (entry.0, g entry.0 entry.1)) config.members
   pub keeps : KeepsMember g (use_after config change)
 
-changed_map : (g : ℕ → Member → Member) (entries : List (ℕ × Member)) → changed_entries (λ k m. Some (g k m)) entries ≡ map (λ (entry : ℕ × Member). (entry.0, g entry.0 entry.1)) entries
+pub changed_map : (g : ℕ → Member → Member) (entries : List (ℕ × Member)) → changed_entries (λ k m. Some (g k m)) entries ≡ map (λ (entry : ℕ × Member). (entry.0, g entry.0 entry.1)) entries
 changed_map g [] = refl
 changed_map g (entry ∷ entries) = ap (λ l. (entry.0, g entry.0 entry.1) ∷ l) (changed_map g entries)
 

@@ -7,6 +7,7 @@ use Rattle.std.specs.Prelude.{slice_get}
 use Rattle.std.specs.Map.{lookup}
 use Rattle.std.specs.List.{AllByRecursion, cons_option, enumerate_from, list_all, list_any}
 use Rattle.std.specs.Result.{result_ok}
+use Rattle.ddf_lemmas.proofs.Lists.{found_passes, in_map}
 use Rattle.ddf_primary.specs.declared.layout.Layout.{Layout}
 use Rattle.ddf_primary.specs.declared.fault.ShapeFault.{ShapeFault}
 use Rattle.ddf_primary.specs.declared.fault.ShapeFault.TheVariants.{MemberCount, Blocks}
@@ -31,9 +32,8 @@ use Rattle.ddf_config.specs.Within.{is_complete, is_redundant}
 use Rattle.ddf_plan.specs.Create.{created, created_state, element_strip, laid_element, laid_position}
 use Rattle.ddf_plan.specs.Mark.{mark}
 use Rattle.ddf_plan.specs.CreateRefusal.{has_more}
-use Rattle.ddf_plan.proofs.Clear.{found_passes}
 use Rattle.ddf_rewrite.specs.Hold.{FitsMember, FitsPosition}
-use Rattle.ddf_rewrite.proofs.Lists.{all_at, map_get}
+use Rattle.ddf_rewrite.proofs.Lists.{all_at}
 use Rattle.ddf_steps.specs.Asked.{IsNewArray, IsNewPlan, IsNewPosition}
 use Rattle.ddf_steps.proofs.HeldEntries.{ArePlansHeld, IsHeldEntry, IsHeldPlan}
 
@@ -131,7 +131,7 @@ module _ (members : List (ℕ × Member)) (all : List Extent) (fit : AllByRecurs
 
   no_row_placed : (positions : List Position) → AllByRecursion IsNewPosition positions → (i : ℕ) (one : Position) → slice_get (map (laid_position members all strip blocks) positions) i ≡ Some one → one.row ≡ 0
   no_row_placed positions each i one at =
-      let from = map_get (laid_position members all strip blocks) positions i one at in
+      let from = in_map (laid_position members all strip blocks) positions i one at in
       sym (ap (λ (p : Position). p.row) from.2) ∙ (all_at IsNewPosition positions i from.0 each from.1).no_row
 
 -- ---- the elements of a new array

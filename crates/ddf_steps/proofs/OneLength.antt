@@ -1,19 +1,20 @@
 -- Disks whose records have one length: a change may be tried on their copies.
-use Rattle.std.proofs.Common.{◌≡◌, ℕ, Bool, true, false, not, eqb, nat_le, List, [], ◌∷◌, fold, Option, Some, None, refl, sym, ap, subst, ◌∙◌, if◌then◌else◌}
-use Rattle.std.proofs.lemmas.Bool.{and_parts, eqb-true}
+use Rattle.std.proofs.Common.{◌≡◌, ℕ, Bool, true, false, eqb, nat_le, List, [], ◌∷◌, fold, Option, Some, None, refl, sym, ap, subst, ◌∙◌, if◌then◌else◌}
+use Rattle.std.proofs.lemmas.Bool.{and_parts, eqb-true, not-false}
 use Rattle.std.specs.List.{AllByRecursion, list_all}
 use Rattle.ddf_config.specs.declared.refusal.FullTable.{FullTable}
 use Rattle.ddf_config.specs.declared.refusal.FullTable.TheVariants.{Records}
 use Rattle.ddf_config.specs.Configuration.{Configuration}
 use Rattle.ddf_rewrite.specs.Before.{Before, before}
 use Rattle.ddf_rewrite.specs.Hold.{AreHeld, IsHoldable}
+use Rattle.ddf_rewrite.proofs.Premises.{is_sound}
 use Rattle.ddf_seats.specs.declared.seated.Seated.{Seated}
 use Rattle.ddf_seats.specs.Seated.{views_in}
 use Rattle.ddf_steps.specs.Steps.{stays_in}
 use Rattle.ddf_steps.specs.Full.{full_of, full_on, full_where_written, least_full, lengths_differ, lesser, rank}
 use Rattle.ddf_seats.specs.Changing.{record_length, AreCopies, CanBeHeldOn, CanBeLed, HaveLength}
 use Rattle.ddf_steps.specs.Trying.{CanTry}
-use Rattle.ddf_seats.proofs.RecordsHeld.{sound_of, held_under}
+use Rattle.ddf_seats.proofs.RecordsHeld.{held_under}
 
 -- ---- one length
 
@@ -23,12 +24,8 @@ lengths_same sectors (disk ∷ disks) h =
     let parts = and_parts (eqb (record_length disk) sectors) (list_all (λ other. eqb (record_length other) sectors) disks) h in
     (eqb-true (record_length disk) sectors parts.0, lengths_same sectors disks parts.1)
 
-not_false : (b : Bool) → not b ≡ false → b ≡ true
-not_false true h = refl
-not_false false h = absurd (cc)
-
 pub one_length : (disk : Seated) (disks : List Seated) → lengths_differ (disk ∷ disks) ≡ false → HaveLength (record_length disk) (disk ∷ disks)
-one_length disk disks h = (refl, lengths_same (record_length disk) disks (not_false _ h))
+one_length disk disks h = (refl, lengths_same (record_length disk) disks (not-false _ h))
 
 -- what one disk has, where all have one length
 pub own_length : (sectors : ℕ) (disks : List Seated) (disk : Seated) → HaveLength sectors disks → record_length disk ≡ sectors → HaveLength (record_length disk) disks
@@ -41,7 +38,7 @@ led_by_all disks are = each disks are
     each : (some : List Seated) → AreCopies some
         → AllByRecursion (λ (disk : Seated). HaveLength (record_length disk) disks → AreHeld disk.copy.header.geometry (before (views_in disks))) some
     each [] are_copies = tt
-    each (disk ∷ some) are_copies = (λ same. held_under disk.copy.header.geometry disks (sound_of disk.copy are_copies.0) are same, each some are_copies.1)
+    each (disk ∷ some) are_copies = (λ same. held_under disk.copy.header.geometry disks (is_sound disk.copy are_copies.0) are same, each some are_copies.1)
 
 -- A change may be tried on each of them.
 pub can_try_all : (leaders : Before) (config : Configuration) (disks : List Seated) → AreCopies disks → lengths_differ disks ≡ false → CanBeLed leaders disks → CanBeHeldOn config disks

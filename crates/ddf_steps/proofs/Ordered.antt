@@ -1,14 +1,14 @@
 -- Disks in the order in which they are written: those that showed another group come last.
-use Rattle.std.proofs.Common.{◌≡◌, ℕ, zero, suc, ◌+◌, Bool, true, false, not, cond, List, [], ◌∷◌, ◌++◌, length, filter, Some, refl, sym, ap, subst, ◌∙◌, inl, inr, ◌⊎◌, ◌<◌, arith}
+use Rattle.std.proofs.Common.{◌≡◌, ℕ, zero, suc, ◌+◌, Bool, true, false, not, cond, List, [], ◌∷◌, ◌++◌, length, filter, Some, refl, sym, ap, ◌∙◌, inl, inr, ◌⊎◌, ◌<◌, arith}
 use Rattle.std.specs.Prelude.{slice_get}
 use Rattle.std.specs.List.{AllByRecursion}
+use Rattle.ddf_lemmas.proofs.Lists.{all_from, filter_get, filter_pass, filtered_passes, first_get, in_map, mapped_at, second_get}
 use Rattle.ddf_view.proofs.Finds.{place_within}
-use Rattle.ddf_rewrite.proofs.Lists.{all_at, all_by_get, get_map, map_get}
+use Rattle.ddf_rewrite.proofs.Lists.{all_at}
 use Rattle.ddf_seats.specs.declared.seated.Seated.{Seated}
 use Rattle.ddf_seats.specs.Seated.{seats_in, slots_in, is_adopted}
 use Rattle.ddf_steps.specs.Steps.{in_order}
 use Rattle.ddf_seats.specs.Changing.{SlotsRise}
-use Rattle.ddf_seats.proofs.Lists.{filter_get, filter_pass}
 use Rattle.ddf_seats.proofs.CommittedSeats.{rise_differ}
 use Rattle.ddf_seats.proofs.KeptSlots.{kept_rise}
 
@@ -22,29 +22,6 @@ either_get (first ∷ xs) ys (suc k) x at = elim (either_get xs ys k x at) [
   | inl early ↦ inl early
   | inr late ↦ inr (late.0, omega (arith, late.1), late.2)
 ]
-
-first_get : {X : Type 0} (xs ys : List X) (k : ℕ) (x : X) → slice_get xs k ≡ Some x → slice_get (xs ++ ys) k ≡ Some x
-first_get [] ys k x at = absurd cc
-first_get (first ∷ xs) ys zero x at = at
-first_get (first ∷ xs) ys (suc k) x at = first_get xs ys k x at
-
-second_get : {X : Type 0} (xs ys : List X) (k : ℕ) (x : X) → slice_get ys k ≡ Some x → slice_get (xs ++ ys) (length xs + k) ≡ Some x
-second_get [] ys k x at = let e : k ≡ 0 + k = omega arith in subst (λ (n : ℕ). slice_get ys n ≡ Some x) e at
-second_get (first ∷ xs) ys k x at =
-    let e : suc (length xs + k) ≡ suc (length xs) + k = omega arith in
-    subst (λ (n : ℕ). slice_get (first ∷ xs ++ ys) n ≡ Some x) e (second_get xs ys k x at)
-
--- An item that passes a test is kept.
-get_kept : {X : Type 0} (test : X → Bool) (xs : List X) (k : ℕ) (x : X) → slice_get xs k ≡ Some x → test x ≡ true → (j : ℕ) × (slice_get (filter test xs) j ≡ Some x)
-get_kept test [] k x at passes = absurd cc
-get_kept {X = X} test (first ∷ xs) zero x at passes =
-    let same : first ≡ x = cc in
-    (0, ap (λ (b : Bool). slice_get (cond b (first ∷ filter test xs) (filter test xs)) 0) (ap test same ∙ passes) ∙ at)
-get_kept {X = X} test (first ∷ xs) (suc k) x at passes = by (test first) (get_kept test xs k x at passes)
-  where
-    by : (b : Bool) → (j : ℕ) × (slice_get (filter test xs) j ≡ Some x) → (j : ℕ) × (slice_get (cond b (first ∷ filter test xs) (filter test xs)) j ≡ Some x)
-    by true found = (suc found.0, found.1)
-    by false found = found
 
 -- ---- disks in order
 
@@ -64,15 +41,15 @@ order_at disks k disk at = by (is_adopted disk) refl
   where
     by : (b : Bool) → is_adopted disk ≡ b → (j : ℕ) × (slice_get (in_order disks) j ≡ Some disk)
     by true e =
-        let kept = get_kept is_adopted disks k disk at e in
+        let kept = filtered_passes is_adopted disks k disk at e in
         (length (filter own disks) + kept.0, second_get (filter own disks) (filter is_adopted disks) kept.0 disk kept.1)
     by false e =
-        let kept = get_kept own disks k disk at (ap not e) in
+        let kept = filtered_passes own disks k disk at (ap not e) in
         (kept.0, first_get (filter own disks) (filter is_adopted disks) kept.0 disk kept.1)
 
 -- What each of the disks has, each in order has.
 pub order_all : (P : Seated → Type 0) (disks : List Seated) → AllByRecursion P disks → AllByRecursion P (in_order disks)
-order_all P disks all = all_by_get P (in_order disks) (λ k disk at. let from = order_from disks k disk at in all_at P disks from.0 disk all from.1)
+order_all P disks all = all_from P (in_order disks) (λ k disk at. let from = order_from disks k disk at in all_at P disks from.0 disk all from.1)
 
 -- Those that showed another group come behind the others.
 pub adopted_last : (disks : List Seated) (i j : ℕ) (one other : Seated) → slice_get (in_order disks) i ≡ Some one → slice_get (in_order disks) j ≡ Some other
@@ -113,7 +90,7 @@ module _ (disks : List Seated) (rise : SlotsRise (seats_in disks)) where
   -- Disks on one slot are one.
   one_disk : (i j : ℕ) (one other : Seated) → slice_get disks i ≡ Some one → slice_get disks j ≡ Some other → one.seat.slot ≡ other.seat.slot → one ≡ other
   one_disk i j one other at also same =
-      let place : i ≡ j = rise_differ disks rise i j other.seat.slot (get_map (λ (disk : Seated). disk.seat.slot) disks i one at ∙ ap Some same) (get_map (λ (disk : Seated). disk.seat.slot) disks j other also) in
+      let place : i ≡ j = rise_differ disks rise i j other.seat.slot (mapped_at (λ (disk : Seated). disk.seat.slot) disks i one at ∙ ap Some same) (mapped_at (λ (disk : Seated). disk.seat.slot) disks j other also) in
       let both : Some one ≡ Some other = sym at ∙ ap (slice_get disks) place ∙ also in
       cc
 
@@ -131,7 +108,7 @@ module _ (disks : List Seated) (rise : SlotsRise (seats_in disks)) where
   kept_differ : (test : Seated → Bool) (i j : ℕ) (one other : Seated) → slice_get (filter test disks) i ≡ Some one → slice_get (filter test disks) j ≡ Some other → one.seat.slot ≡ other.seat.slot → i ≡ j
   kept_differ test i j one other at also same =
       rise_differ (filter test disks) (kept_rise test disks rise) i j other.seat.slot
-      (get_map (λ (disk : Seated). disk.seat.slot) (filter test disks) i one at ∙ ap Some same) (get_map (λ (disk : Seated). disk.seat.slot) (filter test disks) j other also)
+      (mapped_at (λ (disk : Seated). disk.seat.slot) (filter test disks) i one at ∙ ap Some same) (mapped_at (λ (disk : Seated). disk.seat.slot) (filter test disks) j other also)
 
   disks_differ : (i j : ℕ) (one other : Seated) → slice_get (in_order disks) i ≡ Some one → slice_get (in_order disks) j ≡ Some other → one.seat.slot ≡ other.seat.slot → i ≡ j
   disks_differ i j one other at also same = elim (either_get (filter own disks) (filter is_adopted disks) i one at) [
@@ -148,6 +125,6 @@ module _ (disks : List Seated) (rise : SlotsRise (seats_in disks)) where
   -- Each slot is that of one disk.
   pub order_differ : (i j slot : ℕ) → slice_get (slots_in (in_order disks)) i ≡ Some slot → slice_get (slots_in (in_order disks)) j ≡ Some slot → i ≡ j
   order_differ i j slot at also =
-      let one = map_get (λ (disk : Seated). disk.seat.slot) (in_order disks) i slot at in
-      let other = map_get (λ (disk : Seated). disk.seat.slot) (in_order disks) j slot also in
+      let one = in_map (λ (disk : Seated). disk.seat.slot) (in_order disks) i slot at in
+      let other = in_map (λ (disk : Seated). disk.seat.slot) (in_order disks) j slot also in
       disks_differ i j one.0 other.0 one.1 other.1 (one.2 ∙ sym other.2)

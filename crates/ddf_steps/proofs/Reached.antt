@@ -16,7 +16,7 @@ use Rattle.ddf_steps.specs.Ready.{ReadyStep, steps_from, with_step}
 use Rattle.ddf_steps.specs.Tried.{AreTried, IsTried, config_reached, disks_reached}
 use Rattle.ddf_steps.specs.Trying.{AreFollowing, Follows}
 use Rattle.ddf_seats.specs.Changing.{CanBeChanged}
-use Rattle.ddf_steps.proofs.Following.{levelled_changed}
+use Rattle.ddf_steps.proofs.CommittedLevels.{changed_levelled}
 
 -- ---- behind some steps
 
@@ -37,7 +37,7 @@ pub reached_changed : (config : Configuration) (disks : List Seated) (steps : Li
     → CanBeChanged (config_reached config steps) (disks_reached disks steps)
 reached_changed config disks [] can all = can
 reached_changed config disks (one ∷ steps) can all =
-    reached_changed one.step.config (map levelled one.step.disks) steps (levelled_changed one.step.config one.step.disks all.0.can_be_changed) all.1
+    reached_changed one.step.config (map levelled one.step.disks) steps (changed_levelled one.step.config one.step.disks all.0.can_be_changed) all.1
 
 -- ---- a step and those behind it
 

@@ -22,7 +22,6 @@ use Rattle.ddf_rewrite.specs.Hold.{IsHoldable}
 use Rattle.ddf_rewrite.specs.Wanted.{Wanted, all_wanted}
 use Rattle.ddf_rewrite.proofs.AllWanted.{is_wanted, wanted_place}
 use Rattle.ddf_rewrite.proofs.Changed.{changed_shows}
-use Rattle.ddf_rewrite.proofs.Lists.{all_by_get}
 use Rattle.ddf_rewrite.proofs.Roomy.{change_can, write_can, roomy_change_can}
 use Rattle.ddf_rewrite.proofs.Under.{changed_under}
 use Rattle.ddf_seats.specs.declared.seated.Seated.{Seated}
@@ -30,8 +29,9 @@ use Rattle.ddf_steps.specs.Full.{full_on}
 use Rattle.ddf_seats.specs.Changing.{record_length}
 use Rattle.ddf_update.specs.declared.prepared.Mode.TheVariants.{Adopt, Change, Found, Move}
 use Rattle.ddf_update.specs.declared.prepared.Mode.{Mode}
-use Rattle.ddf_view.proofs.Tests.{bytes_same, same_bytes}
+use Rattle.ddf_view.proofs.Tests.{same_bytes}
 use Rattle.std.specs.Str.{bytes_eq}
+use Rattle.ddf_lemmas.proofs.Lists.{all_from, bytes_same}
 use Rattle.ddf_steps.specs.Committed.{HasPlacesOf}
 use Rattle.ddf_steps.specs.Steps.{mode_of, rewritten, stays_in}
 use Rattle.ddf_steps.specs.Trying.{CanTry}
@@ -40,7 +40,7 @@ use Rattle.ddf_steps.specs.Trying.{CanTry}
 
 few_parts : (most : ℕ) (config : Configuration) → IsHoldable most config → (a : ℕ) (entry : List ℕ × Array) → slice_get config.arrays a ≡ Some entry → AreFew entry.1.elements
 few_parts most config can a entry at =
-    all_by_get (λ part. (plan : ElementValue) → part ≡ Some plan → length plan.positions ≤ 64) entry.1.elements
+    all_from (λ part. (plan : ElementValue) → part ≡ Some plan → length plan.positions ≤ 64) entry.1.elements
     (λ i part there plan is.
     let found = is_wanted config a i entry plan at (there ∙ ap Some is) in
     (can.can_hold.plans found.0 (record { guid = entry.0; array = entry.1; index = i; plan = plan }) found.1).few)

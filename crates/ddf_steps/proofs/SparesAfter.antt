@@ -1,10 +1,13 @@
 -- The uses as spares after a change: a dedicated spare's arrays are one or more, in table order, and each is known in part.
-use Rattle.std.proofs.Common.{◌≡◌, ℕ, zero, suc, ◌<◌, Bool, true, false, not, ◌||◌, cond, List, [], ◌∷◌, ◌++◌, length, filter, Option, Some, None, is_some, refl, sym, ap, subst, ◌∙◌, arith}
+use Rattle.std.proofs.Common.{◌≡◌, ℕ, zero, suc, ◌<◌, Bool, true, false, not, cond, List, [], ◌∷◌, ◌++◌, length, filter, Option, Some, None, is_some, refl, sym, ap, subst, ◌∙◌, arith}
 use Rattle.std.proofs.lemmas.Bool.{and_parts, false≢true, false_from_ne_true}
 use Rattle.std.specs.Prelude.{slice_get}
 use Rattle.std.specs.Map.{lookup, keys_of}
 use Rattle.std.specs.List.{list_any, list_all}
 use Rattle.std.specs.Str.{bytes_eq}
+use Rattle.std.proofs.lemmas.Map.Keys.{any_passes_from_place}
+use Rattle.std.specs.Cmp.Derive.{one_truth}
+use Rattle.ddf_lemmas.proofs.Lists.{all_from, any_place, bytes_same, filtered_passes, in_map}
 use Rattle.ddf_config.specs.declared.member.SpareUse.{SpareUse}
 use Rattle.ddf_config.specs.declared.member.SpareUse.TheVariants as uses
 use Rattle.ddf_config.specs.declared.array.Array.{Array}
@@ -15,9 +18,8 @@ use Rattle.ddf_plan.specs.Delete.{dedicated, use_without}
 use Rattle.ddf_plan.specs.Standing.{given_back}
 use Rattle.ddf_plan.specs.Spare.{can_have_spare, lacks_array, use_in_order}
 use Rattle.ddf_view.proofs.Finds.{filter_same}
-use Rattle.ddf_view.proofs.Tests.{same_bytes, bytes_same}
+use Rattle.ddf_view.proofs.Tests.{same_bytes}
 use Rattle.ddf_rewrite.specs.Elements.{is_spare_for}
-use Rattle.ddf_rewrite.proofs.Lists.{all_by_get, map_get}
 use Rattle.ddf_steps.specs.Asked.{IsNewUse}
 use Rattle.ddf_steps.proofs.ArraysAfter.{KeepsArrays, guids_of, with_arrays}
 
@@ -56,7 +58,7 @@ kept_use h keeps entries same use_as is = record {
       let before = is.listed arrays e in
       (ap (filter (λ guid. is_spare_for guid (uses.Dedicated arrays))) same ∙ before.0, before.1);
   known = λ a entry at for.
-      let from = map_get (λ (one : List ℕ × Array). (one.0, h one.0 one.1)) entries a entry at in
+      let from = in_map (λ (one : List ℕ × Array). (one.0, h one.0 one.1)) entries a entry at in
       let own : is_spare_for from.0.0 use_as ≡ true = ap (λ (one : List ℕ × Array). is_spare_for one.0 use_as) from.2 ∙ for in
       let there = is.known a from.0 from.1 own in
       let next = keeps.there from.0.0 from.0.1 there.0 there.1 there.2 in
@@ -64,23 +66,6 @@ kept_use h keeps entries same use_as is = record {
 }
 
 -- ---- lists
-
-any_at : {X : Type 0} (t : X → Bool) (xs : List X) → list_any t xs ≡ true → (i : ℕ) × (x : X) × (slice_get xs i ≡ Some x) × (t x ≡ true)
-any_at t [] h = absurd (false≢true h)
-any_at {X = X} t (x ∷ xs) h = go (any_at t xs) (t x) refl h
-  where
-    go : (list_any t xs ≡ true → (i : ℕ) × (y : X) × (slice_get xs i ≡ Some y) × (t y ≡ true)) → (b : Bool) → t x ≡ b → (b || list_any t xs) ≡ true → (i : ℕ) × (y : X) × (slice_get (x ∷ xs) i ≡ Some y) × (t y ≡ true)
-    go later true e h = (0, x, refl, e)
-    go later false e h = let rest = later h in (suc rest.0, rest.1, rest.2, rest.3)
-
-at_any : {X : Type 0} (t : X → Bool) (xs : List X) (i : ℕ) (x : X) → slice_get xs i ≡ Some x → t x ≡ true → list_any t xs ≡ true
-at_any t [] i x at h = absurd cc
-at_any t (y ∷ ys) zero x at h = let same : y ≡ x = cc in rw same (rw h refl)
-at_any t (y ∷ ys) (suc i) x at h = by (t y) (at_any t ys i x at h)
-  where
-    by : (b : Bool) → list_any t ys ≡ true → (b || list_any t ys) ≡ true
-    by true rest = refl
-    by false rest = rest
 
 filtered : {X : Type 0} (p : X → Bool) (xs : List X) (i : ℕ) (x : X) → slice_get (filter p xs) i ≡ Some x → (p x ≡ true) × (k : ℕ) × (slice_get xs k ≡ Some x)
 filtered p [] i x h = absurd cc
@@ -91,35 +76,17 @@ filtered {X = X} p (y ∷ ys) i x h = go (λ j. filtered p ys j x) (p y) refl i 
     go later true e (suc i) h = let rest = later i h in (rest.0, suc rest.1, rest.2)
     go later false e i h = let rest = later i h in (rest.0, suc rest.1, rest.2)
 
-at_filtered : {X : Type 0} (p : X → Bool) (xs : List X) (k : ℕ) (x : X) → slice_get xs k ≡ Some x → p x ≡ true → (i : ℕ) × (slice_get (filter p xs) i ≡ Some x)
-at_filtered p [] k x at h = absurd cc
-at_filtered {X = X} p (y ∷ ys) zero x at h = let same : y ≡ x = cc in go (p y) (ap p same ∙ h)
-  where
-    go : (b : Bool) → b ≡ true → (i : ℕ) × (slice_get (cond b (y ∷ filter p ys) (filter p ys)) i ≡ Some x)
-    go true e = (0, at)
-    go false e = absurd (false≢true e)
-at_filtered {X = X} p (y ∷ ys) (suc k) x at h = go (p y) (at_filtered p ys k x at h)
-  where
-    go : (b : Bool) → (i : ℕ) × (slice_get (filter p ys) i ≡ Some x) → (i : ℕ) × (slice_get (cond b (y ∷ filter p ys) (filter p ys)) i ≡ Some x)
-    go true rest = (suc rest.0, rest.1)
-    go false rest = rest
-
-same_test : (a b : Bool) → (a ≡ true → b ≡ true) → (b ≡ true → a ≡ true) → a ≡ b
-same_test true b f g = sym (f refl)
-same_test false true f g = g refl
-same_test false false f g = refl
-
 -- those of a list that are among some that pass are those that pass
 sought_again : (q : List ℕ → Bool) (guids : List (List ℕ)) → filter (λ guid. list_any (λ other. bytes_eq guid other) (filter q guids)) guids ≡ filter q guids
 sought_again q guids =
     filter_same (λ guid. list_any (λ other. bytes_eq guid other) (filter q guids)) q guids
-    (all_by_get (λ guid. list_any (λ other. bytes_eq guid other) (filter q guids) ≡ q guid) guids
-    (λ k guid at. same_test (list_any (λ other. bytes_eq guid other) (filter q guids)) (q guid)
-    (λ h. let some = any_at (λ other. bytes_eq guid other) (filter q guids) h in
+    (all_from (λ guid. list_any (λ other. bytes_eq guid other) (filter q guids) ≡ q guid) guids
+    (λ k guid at. one_truth (list_any (λ other. bytes_eq guid other) (filter q guids)) (q guid)
+    (λ h. let some = any_place (λ other. bytes_eq guid other) (filter q guids) h in
     let passes = (filtered q guids some.0 some.1 some.2).0 in
     ap q (same_bytes guid some.1 some.3) ∙ passes)
-    (λ h. let there = at_filtered q guids k guid at h in
-    at_any (λ other. bytes_eq guid other) (filter q guids) there.0 guid there.1 (bytes_same guid))))
+    (λ h. let there = filtered_passes q guids k guid at h in
+    any_passes_from_place (λ other. bytes_eq guid other) (filter q guids) there.0 guid there.1 (bytes_same guid))))
 
 -- ---- a new array
 
@@ -158,7 +125,7 @@ not_for_new guid entries new uses.Revertible is = refl
 not_for_new guid entries new (uses.Dedicated arrays) is =
     false_from_ne_true (list_any (bytes_eq guid) arrays)
     (λ h.
-    let some = any_at (bytes_eq guid) arrays h in
+    let some = any_place (bytes_eq guid) arrays h in
     let listed = (is.listed arrays refl).0 in
     let there = filtered (λ other. is_spare_for other (uses.Dedicated arrays)) (guids_of entries) some.0 some.1 (ap (λ (l : List (List ℕ)). slice_get l some.0) listed ∙ some.2) in
     let away = absent_guid guid entries new there.1 some.1 there.2 in
@@ -214,16 +181,16 @@ sought_passing : (q : List ℕ → Bool) (arrays guids : List (List ℕ))
     → filter (λ guid. list_any (λ other. bytes_eq guid other) (filter q arrays)) (filter q guids) ≡ filter (λ guid. list_any (λ other. bytes_eq guid other) arrays) (filter q guids)
 sought_passing q arrays guids =
     filter_same (λ guid. list_any (λ other. bytes_eq guid other) (filter q arrays)) (λ guid. list_any (λ other. bytes_eq guid other) arrays) (filter q guids)
-    (all_by_get (λ guid. list_any (λ other. bytes_eq guid other) (filter q arrays) ≡ list_any (λ other. bytes_eq guid other) arrays) (filter q guids)
-    (λ k guid at. same_test (list_any (λ other. bytes_eq guid other) (filter q arrays)) (list_any (λ other. bytes_eq guid other) arrays)
-    (λ h. let some = any_at (λ other. bytes_eq guid other) (filter q arrays) h in
+    (all_from (λ guid. list_any (λ other. bytes_eq guid other) (filter q arrays) ≡ list_any (λ other. bytes_eq guid other) arrays) (filter q guids)
+    (λ k guid at. one_truth (list_any (λ other. bytes_eq guid other) (filter q arrays)) (list_any (λ other. bytes_eq guid other) arrays)
+    (λ h. let some = any_place (λ other. bytes_eq guid other) (filter q arrays) h in
     let from = filtered q arrays some.0 some.1 some.2 in
-    at_any (λ other. bytes_eq guid other) arrays from.1 some.1 from.2 some.3)
-    (λ h. let some = any_at (λ other. bytes_eq guid other) arrays h in
+    any_passes_from_place (λ other. bytes_eq guid other) arrays from.1 some.1 from.2 some.3)
+    (λ h. let some = any_place (λ other. bytes_eq guid other) arrays h in
     let own = (filtered q guids k guid at).0 in
     let passes : q some.1 ≡ true = ap q (sym (same_bytes guid some.1 some.3)) ∙ own in
-    let there = at_filtered q arrays some.0 some.1 some.2 passes in
-    at_any (λ other. bytes_eq guid other) (filter q arrays) there.0 some.1 there.1 some.3)))
+    let there = filtered_passes q arrays some.0 some.1 some.2 passes in
+    any_passes_from_place (λ other. bytes_eq guid other) (filter q arrays) there.0 some.1 there.1 some.3)))
 
 dedicated_are : (arrays next : List (List ℕ)) → dedicated arrays ≡ uses.Dedicated next → (arrays ≡ next) × (next ≡ [] → ⊥)
 dedicated_are [] next h = absurd cc
@@ -252,9 +219,9 @@ use_without_gone gone entries (uses.Dedicated arrays) is =
           );
       known = λ a entry at for.
           let from = filtered (λ (one : List ℕ × Array). not (same_guid gone one.0)) entries a entry at in
-          let some = any_at (bytes_eq entry.0) (filter q arrays) (for_dedicated entry.0 (filter q arrays) for) in
+          let some = any_place (bytes_eq entry.0) (filter q arrays) (for_dedicated entry.0 (filter q arrays) for) in
           let there = filtered q arrays some.0 some.1 some.2 in
-          is.known from.1 entry from.2 (at_any (bytes_eq entry.0) arrays there.1 some.1 there.2 some.3);
+          is.known from.1 entry from.2 (any_passes_from_place (bytes_eq entry.0) arrays there.1 some.1 there.2 some.3);
     }
 
 -- ---- a new use
@@ -265,7 +232,7 @@ found_known guid [] h = absurd (false≢true h)
 found_known guid (entry ∷ entries) h = by (same_guid guid entry.0) refl h (found_known guid entries)
   where
     some_known : (array : Array) → list_any (λ (part : Option ElementPlan). is_some part) array.elements ≡ true → HasKnown array
-    some_known array h = let some = any_at (λ (part : Option ElementPlan). is_some part) array.elements h in go some.0 some.1 some.2 some.3
+    some_known array h = let some = any_place (λ (part : Option ElementPlan). is_some part) array.elements h in go some.0 some.1 some.2 some.3
       where
         go : (e : ℕ) (part : Option ElementPlan) → slice_get array.elements e ≡ Some part → is_some part ≡ true → HasKnown array
         go e None at is = absurd (false≢true is)
@@ -300,9 +267,9 @@ use_ordered config apart (uses.Dedicated arrays) new lacks =
             λ none. some_ordered arrays new all (own ∙ none),
           );
       known = λ a entry at for.
-          let some = any_at (bytes_eq entry.0) (filter q names) for in
+          let some = any_place (bytes_eq entry.0) (filter q names) for in
           let passes = (filtered q names some.0 some.1 some.2).0 in
-          let listed = any_at (same_guid some.1) arrays passes in
+          let listed = any_place (same_guid some.1) arrays passes in
           let found = found_known listed.1 config.arrays (list_at (can_have_spare config) arrays listed.0 listed.1 all listed.2) in
           let guid : entry.0 ≡ found.1.0 = same_bytes entry.0 some.1 some.3 ∙ same_bytes some.1 listed.1 listed.3 ∙ sym found.3 in
           subst (λ (one : List ℕ × Array). HasKnown one.1) (sym (apart a found.0 entry found.1 at found.2 guid)) found.4;
@@ -326,7 +293,7 @@ use_ordered config apart (uses.Dedicated arrays) new lacks =
         let found = found_known guid config.arrays (and_parts (can_have_spare config guid) (list_all (can_have_spare config) guids) h).0 in
         let named = get_key config.arrays found.0 found.1 found.2 in
         let own : same_guid found.1.0 guid ≡ true = ap (λ (g : List ℕ). bytes_eq found.1.0 g) (sym found.3) ∙ bytes_same found.1.0 in
-        let there = at_filtered (λ other. list_any (same_guid other) (guid ∷ guids)) (keys_of config.arrays) found.0 found.1.0 named (at_any (same_guid found.1.0) (guid ∷ guids) 0 guid refl own) in
+        let there = filtered_passes (λ other. list_any (same_guid other) (guid ∷ guids)) (keys_of config.arrays) found.0 found.1.0 named (any_passes_from_place (same_guid found.1.0) (guid ∷ guids) 0 guid refl own) in
         let gone : slice_get [] there.0 ≡ Some found.1.0 = ap (λ (l : List (List ℕ)). slice_get l there.0) (sym none) ∙ there.1 in
         absurd cc
       where

@@ -2,11 +2,11 @@
 use Rattle.std.proofs.Common.{◌≡◌, ◌≢◌, ◌⊎◌, ℕ, zero, suc, Bool, true, false, eqb, List, [], ◌∷◌, length, Some, inl, inr, refl, sym, ap, subst, ◌∙◌}
 use Rattle.std.proofs.lemmas.Bool.{eqb-false, eqb-true}
 use Rattle.std.specs.Prelude.{slice_get}
+use Rattle.ddf_lemmas.proofs.Lists.{in_map, mapped_at}
 use Rattle.ddf_bay.specs.Moments.{IsSettled, Keeps}
 use Rattle.ddf_bay.specs.Sectors.{Image, IsLeft}
 use Rattle.ddf_bay.specs.State.{BayState, size_of}
 use Rattle.ddf_config.specs.declared.seat.Seat.{Seat}
-use Rattle.ddf_rewrite.proofs.Lists.{get_map, map_get}
 use Rattle.ddf_update.specs.declared.prepared.Prepared.{Prepared}
 use Rattle.ddf_update.specs.Changes.{AreChanged, HasChanged, IsGetting, IsLeftChangingAll, MayChangeAll, SlotChange}
 use Rattle.ddf_update.proofs.Getting.{get_again}
@@ -37,7 +37,7 @@ module _ {D : Type 0} (old mid : BayState D) (seats : List Seat) (sizes : mid.si
   within s l bytes left = (
     keeps s l bytes left,
     λ place at.
-        let found = map_get (λ (seat : Seat). seat.slot) seats place s at in
+        let found = in_map (λ (seat : Seat). seat.slot) seats place s at in
         let here = subst (λ (n : ℕ). IsSettled mid.may_hold mid.held n) found.2 (settled place found.0 (get_within seats found.0 place found.1) found.1) in
         here l bytes left ∙ ap (λ (image : Image). image s l) held,
   )
@@ -92,5 +92,5 @@ settled_since old new seats slots seat updates is place one below at l bytes lef
   | inl found ↦ is.are_settled found.0 one.slot (get_within slots one.slot found.0 found.1) found.1 l bytes left
   | inr none ↦
       let was = is.others_left one.slot l bytes (λ k within. none k) left in
-      was.1 place (get_map (λ (s : Seat). s.slot) seats place one at) ∙ sym (is.others one.slot l (λ k within. none k))
+      was.1 place (mapped_at (λ (s : Seat). s.slot) seats place one at) ∙ sym (is.others one.slot l (λ k within. none k))
 ]

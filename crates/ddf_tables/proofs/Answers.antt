@@ -1,15 +1,9 @@
 -- What holds of a call's value, up to want of memory.
 use Rattle.std.proofs.Common.{◌≡◌, inl, inr, Option, Some, None, Result, Ok, Err, refl, sym, subst}
 use Rattle.std.specs.Prelude.{IfOk}
-use Rattle.std.specs.Result.{result_err}
 use Rattle.ddf_bytes.specs.Choices.{ok_unless}
-use Rattle.ddf_seal.specs.declared.sealing.SealFault.{SealFault}
 use Rattle.ddf_tables.specs.declared.fault.TableFault.{TableFault}
 use Rattle.ddf_tables.specs.Faults.{UpToMemory}
-
-pub none_err : (r : Result Unit SealFault) → result_err r ≡ None → r ≡ Ok tt
-none_err (Ok x) h = refl
-none_err (Err e) h = absurd cc
 
 ok_parts : {T : Type 0} (o : Option TableFault) (x y : T) → ok_unless o x ≡ Ok y → (o ≡ None) × (x ≡ y)
 ok_parts None x y h = (refl, cc)

@@ -5,16 +5,18 @@ use Rattle.std.specs.Result.{result_err}
 use Rattle.std.specs.Int.{w16, w32, w64}
 use Rattle.std.proofs.lemmas.Bool.{ltb-false, le-ltb}
 use Rattle.std.proofs.lemmas.List.{length-replicate}
+use Rattle.ddf_lemmas.proofs.Options.{none_from_map}
 use Rattle.ddf_bytes.specs.declared.no_memory.NoMemory.{NoMemory}
 use Rattle.ddf_bytes.specs.Bytes.{number_at}
 use Rattle.ddf_bytes.specs.Choices.{first_of, ok_unless}
-use Rattle.ddf_bytes.proofs.Nones.{none_first, none_map, none_when}
+use Rattle.ddf_bytes.proofs.Nones.{none_first, none_when}
 use Rattle.ddf_seal.specs.declared.unread.Span.{Span}
 use Rattle.ddf_seal.specs.Seal.{seal_check, seal_place}
 use Rattle.ddf_seal.specs.Unread.{AreBytes, places, cleared}
 use Rattle.ddf_seal.proofs.Same.{AreWithin, cleared_outside, cleared-cleared}
 use Rattle.ddf_seal.proofs.Seals.{sealed_from_check, check_from_sealed}
 use Rattle.ddf_seal.proofs.Records.{AreAllApart, record_again, record_from_bytes, record_written, length-record_bytes}
+use Rattle.ddf_seal.proofs.Common.{none_err}
 use Rattle.ddf_tables.specs.declared.bad_blocks.BadBlock.{BadBlock}
 use Rattle.ddf_tables.specs.declared.fault.TableFault.{TableFault}
 use Rattle.ddf_tables.specs.declared.fault.TableFault.TheVariants as faults
@@ -22,7 +24,7 @@ use Rattle.ddf_tables.specs.declared.layout.TheConstants.{LOG_COUNT_AT, LOG_SPAR
 use Rattle.ddf_tables.specs.Places.{each_at}
 use Rattle.ddf_tables.specs.Faults.{UpToMemory}
 use Rattle.ddf_tables.specs.BadBlocks.{LogValue, log_signature, log_fields, IsLogOf, IsLog, log_bytes, entry_at, unread_of_log, log_at, entries_that_fit, log_faults, decoded_log, blank_log}
-use Rattle.ddf_tables.proofs.Answers.{none_err, if_ok, if_ok_then}
+use Rattle.ddf_tables.proofs.Answers.{if_ok, if_ok_then}
 use Rattle.ddf_tables.proofs.Parts.{length-each_at}
 use Rattle.ddf_tables.proofs.LogEntries.{places_of_entries, entries_within, apart_from_entries, entries_apart, entries_stand, entries_only}
 
@@ -60,7 +62,7 @@ log_from_section section long are h =
       long = omega (arith, count);
       is_record = record {
         are_bytes = are;
-        is_sealed = sealed_from_check log_signature section (omega arith) are (none_err seal (none_map faults.Seal (result_err seal) none.0));
+        is_sealed = sealed_from_check log_signature section (omega arith) are (none_err seal (none_from_map faults.Seal (result_err seal) none.0));
         fields_stand = (sym count, (refl, (refl, entries_stand section LOG_ENTRIES_AT stated)));
         others_stay = ap (λ n. unread_of_log n section) (sym count) ∙ unread_is (log_at section) section;
       };

@@ -1,9 +1,12 @@
 -- Nothing is wrong with the names of a table's rows exactly where each used row has one of its own.
-use Rattle.std.proofs.Common.{◌≡◌, ◌⊎◌, inl, inr, ℕ, zero, suc, ◌+◌, Bool, true, false, ◌||◌, List, [], ◌∷◌, ◌++◌, length, take, replicate, Option, Some, None, refl, sym, ◌∙◌, ap, length-append, append_assoc}
+use Rattle.std.proofs.Common.{◌≡◌, ◌⊎◌, inl, inr, ℕ, zero, suc, ◌+◌, Bool, false, ◌||◌, List, [], ◌∷◌, ◌++◌, length, take, replicate, Option, Some, None, refl, sym, ◌∙◌, ap, length-append, append_assoc}
 use Rattle.std.specs.List.{AllByRecursion, IsDistinct, filter_map, list_any}
 use Rattle.std.specs.Option.{option_or}
 use Rattle.std.proofs.Math.Seq.{take-append_seam}
 use Rattle.std.proofs.lemmas.List.Folds.{list_any-append}
+use Rattle.std.proofs.lemmas.Bool.{or_parts}
+use Rattle.ddf_lemmas.proofs.Lists.{all_both}
+use Rattle.ddf_lemmas.proofs.Options.{none_of_both}
 use Rattle.ddf_bytes.specs.Choices.{when}
 use Rattle.ddf_bytes.proofs.Nones.{none_when}
 use Rattle.ddf_tables.specs.declared.fault.TableFault.{TableFault}
@@ -22,10 +25,6 @@ abbrev NoneAfter : {Row : Type 0} → (List Row → Row → Option TableFault) �
 NoneAfter twice earlier [] = Unit {0}
 NoneAfter twice earlier (row ∷ rows) = (twice earlier row ≡ None) × NoneAfter twice (earlier ++ row ∷ []) rows
 
-both_none : {X : Type 0} (a b : Option X) → option_or a b ≡ None → (a ≡ None) × (b ≡ None)
-both_none None b h = (refl, h)
-both_none (Some x) b h = absurd cc
-
 pushed : {Row : Type 0} → (earlier rows all : List Row) (row : Row) → all ≡ earlier ++ row ∷ rows → all ≡ (earlier ++ row ∷ []) ++ rows
 pushed earlier rows all row is = is ∙ sym (append_assoc earlier (row ∷ []) rows)
 
@@ -39,7 +38,7 @@ after_from_faults : {Row : Type 0} → (twice : List Row → Row → Option Tabl
     → faults_from twice all at rows ≡ None → NoneAfter twice earlier rows
 after_from_faults twice all earlier [] at is size none = tt
 after_from_faults twice all earlier (row ∷ rows) at is size none =
-    let parts = both_none (twice (take at all) row) (faults_from twice all (at + 1) rows) none in (
+    let parts = none_of_both (twice (take at all) row) (faults_from twice all (at + 1) rows) none in (
       ap (λ l. twice l row) (sym (before earlier (row ∷ rows) all at is size)) ∙ parts.0,
       after_from_faults twice all (earlier ++ row ∷ []) rows (at + 1) (pushed earlier rows all row is) (one_longer earlier row at size) parts.1,
     )
@@ -58,17 +57,9 @@ named : {X : Type 0} (o : Option X) → (o ≡ None) ⊎ ((x : X) × (o ≡ Some
 named None = inl refl
 named (Some x) = inr (x, refl)
 
-both_false : (a b : Bool) → (a || b) ≡ false → (a ≡ false) × (b ≡ false)
-both_false true b h = absurd cc
-both_false false b h = (refl, h)
-
 all_then : {X : Type 0} (P Q : X → Type 0) (xs : List X) → ((x : X) → P x → Q x) → AllByRecursion P xs → AllByRecursion Q xs
 all_then P Q [] f h = tt
 all_then P Q (x ∷ xs) f h = (f x h.0, all_then P Q xs f h.1)
-
-all_both : {X : Type 0} (P Q : X → Type 0) (xs : List X) → AllByRecursion P xs → AllByRecursion Q xs → AllByRecursion (λ x. P x × Q x) xs
-all_both P Q [] h k = tt
-all_both P Q (x ∷ xs) h k = ((h.0, k.0), all_both P Q xs h.1 k.1)
 
 -- the names of rows are apart from one another and from those of earlier rows
 record AreOwn {Row Name : Type 0} (name_of : Row → Option Name) (eq : Name → Name → Bool) (is_no_name : Name → Bool) (earlier rows : List Row) : Type 0 where
@@ -80,8 +71,8 @@ record AreOwn {Row Name : Type 0} (name_of : Row → Option Name) (eq : Name →
 one_more : {Row Name : Type 0} (name_of : Row → Option Name) (eq : Name → Name → Bool) (earlier : List Row) (row : Row) (name : Name)
     → list_any (has_name name_of eq name) (earlier ++ row ∷ []) ≡ false → (list_any (has_name name_of eq name) earlier ≡ false) × (has_name name_of eq name row ≡ false)
 one_more name_of eq earlier row name h =
-    let parts = both_false (list_any (has_name name_of eq name) earlier) (list_any (has_name name_of eq name) (row ∷ [])) (sym (list_any-append (has_name name_of eq name) earlier (row ∷ [])) ∙ h) in
-    (parts.0, (both_false (has_name name_of eq name row) false parts.1).0)
+    let parts = or_parts (list_any (has_name name_of eq name) earlier) (list_any (has_name name_of eq name) (row ∷ [])) (sym (list_any-append (has_name name_of eq name) earlier (row ∷ [])) ∙ h) in
+    (parts.0, (or_parts (has_name name_of eq name row) false parts.1).0)
 
 and_one : {Row Name : Type 0} (name_of : Row → Option Name) (eq : Name → Name → Bool) (earlier : List Row) (row : Row) (name : Name)
     → list_any (has_name name_of eq name) earlier ≡ false → has_name name_of eq name row ≡ false → list_any (has_name name_of eq name) (earlier ++ row ∷ []) ≡ false
@@ -105,7 +96,7 @@ own_from_after name_of eq is_no_name fault earlier (row ∷ rows) none =
       }
       | inr (name, is) ↦
           let sound : when (is_no_name name || list_any (has_name name_of eq name) earlier) (fault name) ≡ None = rw is at none.0 in
-          let parts = both_false (is_no_name name) (list_any (has_name name_of eq name) earlier) (none_when (is_no_name name || list_any (has_name name_of eq name) earlier) (fault name) sound) in
+          let parts = or_parts (is_no_name name) (list_any (has_name name_of eq name) earlier) (none_when (is_no_name name || list_any (has_name name_of eq name) earlier) (fault name) sound) in
           let apart = all_then (λ other. (list_any (has_name name_of eq other) earlier ≡ false) × (has_name name_of eq other row ≡ false)) (λ other. eq name other ≡ false) others (λ other both. rw is at both.1) split in
           record {
             each = rw is (parts.0, rest.each);

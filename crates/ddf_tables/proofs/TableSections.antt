@@ -7,22 +7,24 @@ use Rattle.std.specs.Int.{w16}
 use Rattle.std.proofs.lemmas.Bool.{eqb-true, eq-eqb}
 use Rattle.std.proofs.lemmas.List.{length-replicate}
 use Rattle.std.proofs.lemmas.List.Sums.{count_by-le-length}
+use Rattle.ddf_lemmas.proofs.Options.{none_from_map}
 use Rattle.ddf_bytes.specs.declared.no_memory.NoMemory.{NoMemory}
 use Rattle.ddf_bytes.specs.Bytes.{bytes_at, number_at}
 use Rattle.ddf_bytes.specs.Choices.{first_of, ok_unless}
-use Rattle.ddf_bytes.proofs.Nones.{none_first, none_map, none_when_not}
+use Rattle.ddf_bytes.proofs.Nones.{none_first, none_when_not}
 use Rattle.ddf_seal.specs.Seal.{seal_check, seal_place}
 use Rattle.ddf_seal.specs.Unread.{AreBytes}
 use Rattle.ddf_seal.specs.Records.{IsRecordOf, IsRecord, record_bytes}
 use Rattle.ddf_seal.proofs.Same.{AreWithin, cleared_outside, cleared-cleared}
 use Rattle.ddf_seal.proofs.Seals.{sealed_from_check, check_from_sealed}
 use Rattle.ddf_seal.proofs.Records.{AreAllApart, record_again, record_from_bytes, record_written, length-record_bytes}
+use Rattle.ddf_seal.proofs.Common.{none_err}
 use Rattle.ddf_tables.specs.declared.fault.TableFault.{TableFault}
 use Rattle.ddf_tables.specs.declared.fault.TableFault.TheVariants as faults
 use Rattle.ddf_tables.specs.declared.layout.TheConstants.{MAXIMUM_AT, ROWS_AT, ROW_BYTES}
 use Rattle.ddf_tables.specs.Faults.{UpToMemory}
 use Rattle.ddf_tables.specs.Tables.{TableValue, table_fields, first_twice, IsTableOf, IsTable, table_places, unread_of_table, table_bytes, rows_at, table_at, table_faults, decoded_table, blank_table, replaced_table}
-use Rattle.ddf_tables.proofs.Answers.{none_err, if_ok, if_ok_then}
+use Rattle.ddf_tables.proofs.Answers.{if_ok, if_ok_then}
 use Rattle.ddf_tables.proofs.Parts.{length-each_at}
 use Rattle.ddf_tables.proofs.Names.{NameLaws}
 use Rattle.ddf_tables.proofs.TableValues.{RowLaws, rows_at_stand, rows_at_only, row_bytes_again, rows_are_good, length-row_bytes, rows_stand_written}
@@ -52,7 +54,7 @@ table_from_section {row_at = row_at} {twice = twice} laws names signature max se
       long = long;
       is_record = record {
         are_bytes = are;
-        is_sealed = sealed_from_check signature section (omega arith) are (none_err seal (none_map faults.Seal (result_err seal) none.0));
+        is_sealed = sealed_from_check signature section (omega arith) are (none_err seal (none_from_map faults.Seal (result_err seal) none.0));
         fields_stand = (refl, (stated ∙ sym count, (refl, tt)));
         others_stay = ap (λ n. unread_of_table n section) (sym count);
       };

@@ -1,12 +1,12 @@
 -- A table is the value of its section exactly where it is read from it without a fault, and is written as that section.
-use Rattle.std.proofs.Common.{◌≡◌, ℕ, zero, suc, ◌+◌, ◌-◌, ◌*◌, ◌<◌, ◌≤◌, List, [], ◌∷◌, ◌++◌, length, take, drop, replicate, refl, sym, ◌∙◌, ap, subst, arith, length-append, inl, inr}
+use Rattle.std.proofs.Common.{◌≡◌, ℕ, zero, suc, ◌+◌, ◌-◌, ◌*◌, ◌≤◌, List, [], ◌∷◌, ◌++◌, length, take, drop, replicate, refl, sym, ◌∙◌, ap, subst, arith, length-append}
 use Rattle.std.specs.List.{AllByRecursion, flat_map}
-use Rattle.std.proofs.Math.Seq.{take-add, take-append_seam, drop-append_seam}
-use Rattle.std.proofs.lemmas.Bool.{cases_lt}
-use Rattle.std.proofs.lemmas.List.{drop-drop, get_or_past, take-replicate, drop-replicate}
+use Rattle.std.proofs.Math.Seq.{take-append_seam, drop-append_seam}
+use Rattle.std.proofs.lemmas.List.{take-replicate, drop-replicate}
 use Rattle.ddf_bytes.specs.Bytes.{bytes_at}
 use Rattle.ddf_seal.specs.Unread.{AreBytes}
-use Rattle.ddf_seal.proofs.Placing.{length-bytes_at, get_or-bytes_at}
+use Rattle.ddf_seal.proofs.Placing.{length-bytes_at}
+use Rattle.ddf_seal.proofs.Spelled.{AreBytes-bytes_at, bytes_at-append}
 use Rattle.ddf_tables.specs.declared.layout.TheConstants.{ROWS_AT, ROW_BYTES}
 use Rattle.ddf_tables.specs.Places.{each_at}
 use Rattle.ddf_tables.specs.Tables.{RowsStand, rows_at}
@@ -19,18 +19,6 @@ pub record RowLaws {Row : Type 0} (IsRowAt : Row → List ℕ → Type 0) (IsRow
   pub is_row : (row : Row) (bytes : List ℕ) → length bytes ≡ ROW_BYTES → IsRowAt row bytes → IsRow row
   pub size : (row : Row) → IsRow row → length (row_bytes row) ≡ ROW_BYTES
   pub bytes_are : (row : Row) → IsRow row → AreBytes (row_bytes row) → IsRowAt row (row_bytes row)
-
--- ---- parts of bytes
-
-pub AreBytes-bytes_at : (bytes : List ℕ) (at size : ℕ) → at + size ≤ length bytes → AreBytes bytes → AreBytes (bytes_at bytes at size)
-AreBytes-bytes_at bytes at size within are i =
-    elim (cases_lt i size) [
-      | inl lt ↦ subst (λ n. n < 256) (sym (get_or-bytes_at bytes at size i 0 lt)) (are (at + i))
-      | inr past ↦ let len = length-bytes_at bytes at size within in subst (λ n. n < 256) (sym (get_or_past (bytes_at bytes at size) i 0 (omega (arith, len)))) (omega arith)
-    ]
-
-pub bytes_at-split : (bytes : List ℕ) (at m n : ℕ) → bytes_at bytes at (m + n) ≡ bytes_at bytes at m ++ bytes_at bytes (at + m) n
-bytes_at-split bytes at m n = take-add m n (drop at bytes) ∙ ap (λ l. bytes_at bytes at m ++ take n l) (drop-drop m at bytes)
 
 -- ---- rows one after another
 
@@ -61,7 +49,7 @@ row_bytes_again {row_bytes = row_bytes} laws bytes at (row ∷ rows) within stan
     let more : ROW_BYTES * suc (length rows) ≡ ROWS_AT + ROW_BYTES * length rows = omega arith in
     ap (λ l. l ++ flat_map row_bytes rows) (laws.bytes_again row (bytes_at bytes at ROW_BYTES) (length-bytes_at bytes at ROW_BYTES first) stand.0)
     ∙ ap (λ l. bytes_at bytes at ROW_BYTES ++ l) (row_bytes_again laws bytes (at + ROW_BYTES) rows (omega arith) stand.1)
-    ∙ sym (bytes_at-split bytes at ROW_BYTES (ROW_BYTES * length rows)) ∙ ap (bytes_at bytes at) (sym more)
+    ∙ sym (bytes_at-append bytes at ROW_BYTES (ROW_BYTES * length rows)) ∙ ap (bytes_at bytes at) (sym more)
 
 pub rows_are_good : {Row : Type 0} {IsRowAt : Row → List ℕ → Type 0} {IsRow : Row → Type 0} {row_at : List ℕ → Row} {row_bytes : Row → List ℕ} (laws : RowLaws IsRowAt IsRow row_at row_bytes)
     (bytes : List ℕ) (at : ℕ) (rows : List Row) → at + ROW_BYTES * length rows ≤ length bytes → RowsStand IsRowAt bytes at rows → AllByRecursion IsRow rows
@@ -89,7 +77,7 @@ rows_stand_written {IsRowAt = IsRowAt} {row_bytes = row_bytes} laws bytes at (ro
     let rest = bytes_at bytes (at + ROW_BYTES) (ROW_BYTES * length rows) in
     let size = length-bytes_at bytes at ROW_BYTES first in
     let len = laws.size row good.0 in
-    let both : here ++ rest ≡ row_bytes row ++ flat_map row_bytes rows = sym (bytes_at-split bytes at ROW_BYTES (ROW_BYTES * length rows)) ∙ ap (bytes_at bytes at) (sym more) ∙ stands in
+    let both : here ++ rest ≡ row_bytes row ++ flat_map row_bytes rows = sym (bytes_at-append bytes at ROW_BYTES (ROW_BYTES * length rows)) ∙ ap (bytes_at bytes at) (sym more) ∙ stands in
     let same : here ≡ row_bytes row =
     sym (take-append_seam here rest) ∙ ap (λ n. take n (here ++ rest)) (size ∙ sym len) ∙ ap (take (length (row_bytes row))) both ∙ take-append_seam (row_bytes row) (flat_map row_bytes rows) in
     let others : rest ≡ flat_map row_bytes rows =

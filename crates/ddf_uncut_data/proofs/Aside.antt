@@ -4,8 +4,8 @@ use Rattle.ddf_bay.specs.Sectors.{Image}
 use Rattle.ddf_parity.specs.Xor.{zeros}
 use Rattle.ddf_array.specs.Volume.{Volume}
 use Rattle.ddf_data_group.specs.Clear.{IsItsCell}
-use Rattle.ddf_data_group.proofs.Clearly.{lies_of}
 use Rattle.ddf_steps.specs.Steps.{Step}
+use Rattle.ddf_rebuild.proofs.Aiming.{cell_lies}
 use Rattle.ddf_group_commands.specs.Written.{AreWritten}
 use Rattle.ddf_uncut_data.specs.Aside.{LieAside}
 use Rattle.ddf_uncut_data.specs.Blank.{IsBlank}
@@ -17,4 +17,4 @@ module _ (floor : ℕ → ℕ) (v : Volume) (low : (slot lba : ℕ) → IsItsCel
 
   pub blank_below : (image : Image) → ((slot lba : ℕ) → lba < floor slot → image slot lba ≡ zeros) → IsBlank v image
   blank_below image empty slot lba cell =
-      empty slot lba (low slot lba (record { element = cell.element; position = cell.position; sector = cell.sector; lies = lies_of v slot lba cell }))
+      empty slot lba (low slot lba (record { element = cell.element; position = cell.position; sector = cell.sector; lies = cell_lies v slot lba cell }))

@@ -17,6 +17,7 @@ use Rattle.ddf_data_group.specs.Clear.{ChangesItsCells}
 use Rattle.ddf_data_group.proofs.Clearly.{write_changes}
 use Rattle.ddf_seats.specs.Group.{GroupValue}
 use Rattle.ddf_steps.specs.Steps.{Step}
+use Rattle.ddf_data_array.proofs.Common.{kept_more}
 use Rattle.ddf_answer.specs.Call.{Work}
 use Rattle.ddf_write_commands.specs.Resync.{resyncing}
 use Rattle.ddf_write_commands.specs.Worked.{AreBlocksDone}
@@ -25,7 +26,7 @@ use Rattle.ddf_uncut_data.specs.Aside.{LieAside}
 use Rattle.ddf_uncut_data.specs.Blank.{IsBlank}
 use Rattle.ddf_uncut_data.specs.Blocks.{HoldsBlocks, exactly, held_blocks, none_absent, with_sectors}
 use Rattle.ddf_uncut_data.specs.Whole.{IsWhole}
-use Rattle.ddf_uncut_data.proofs.Held.{alike_marked, holds_same, kept_by}
+use Rattle.ddf_uncut_data.proofs.Held.{alike_marked, holds_same}
 use Rattle.ddf_uncut_data.proofs.Resync.{holds_resynced, holds_zeros}
 use Rattle.ddf_uncut_data.proofs.Whole.{marked_volume}
 use Rattle.ddf_uncut_data.proofs.Write.{holds_written}
@@ -66,7 +67,7 @@ module _ {D : Type 0} (work : Work D) (found : GroupValue) (first last : List St
           apart = there.apart;
           unmarked = there.unmarked;
           within = there.within;
-          kept = kept_by none_absent (with_mark false v) work.new.held (exactly (held_blocks v done.behind)) (exactly (held_blocks v work.new.held))
+          kept = kept_more none_absent (with_mark false v) work.new.held (exactly (held_blocks v done.behind)) (exactly (held_blocks v work.new.held))
               (λ block bytes may. subst (λ (held : List ℕ). May (Some (held ∷ [])) bytes)
               (ap (λ o. unwrap_or o []) (value_same v known done.behind work.new.held (alike_cells v done.behind work.new.held last_same) block)) may) there.kept;
         }

@@ -1,6 +1,6 @@
 -- Arrays whose places lie where they lay: with a position in sync, or with rows that count.
-use Rattle.std.proofs.Common.{◌≡◌, ◌∙◌, inl, inr, ⊎_elim, ℕ, zero, suc, Bool, true, false, List, [], ◌∷◌, Option, Some, refl, sym, ap, subst, arith, map, length, slice_get, ◌&&◌}
-use Rattle.std.specs.Prelude.{is_some}
+use Rattle.std.proofs.Common.{◌≡◌, ◌∙◌, inl, inr, ⊎_elim, ℕ, zero, suc, true, false, List, [], ◌∷◌, Some, refl, sym, ap, subst, arith, map, length, slice_get}
+use Rattle.ddf_lemmas.proofs.Options.{no_first_of_and_some}
 use Rattle.ddf_primary.specs.Placement.{Placement}
 use Rattle.ddf_primary.specs.Levels.{IsShape}
 use Rattle.ddf_config.specs.Shapes.{shape_size}
@@ -14,7 +14,8 @@ use Rattle.ddf_data_array.specs.Changing.{changed_item, in_sync, noted, part_in_
 use Rattle.ddf_data_array.specs.Fewer.{AreFewerParts, ArePlaces, IsFewerPlace}
 use Rattle.ddf_data_array.proofs.Fewer.{was_within}
 use Rattle.ddf_data_array.proofs.Items.{changed_cases, changed_length}
-use Rattle.ddf_uncut_data.proofs.Whole.{same_parts, same_places}
+use Rattle.ddf_data_array.proofs.Noted.{all_itself}
+use Rattle.ddf_uncut_data.proofs.Whole.{same_places}
 
 -- a place lies where it lay, by the places before
 pub record LayThere (befores : List Place) (position : ℕ) (after : Place) : Type 0 where
@@ -134,15 +135,11 @@ synced_apart v element position apart =
 
 -- without it fewer places are available
 
-out_by : (synced : Bool) (slot : Option ℕ) → synced ≡ false → (synced && is_some slot) ≡ false
-out_by false slot e = refl
-out_by true slot e = absurd (cc)
-
 fewer_places : (position : ℕ) (places : List Place) (own : Place) → slice_get places position ≡ Some own → own.synced ≡ false → ArePlaces IsFewerPlace (changed_item place_in_sync position places) places
 fewer_places position [] own at out = tt
 fewer_places zero (place ∷ places) own at out =
     let same : place ≡ own = cc in
-    (inl (out_by place.synced place.slot (ap (λ (x : Place). x.synced) same ∙ out)), same_places places)
+    (inl (no_first_of_and_some place.synced place.slot (ap (λ (x : Place). x.synced) same ∙ out)), same_places places)
 fewer_places (suc position) (place ∷ places) own at out = (inr (refl, refl, refl), fewer_places position places own at out)
 
 fewer_parts : (position element : ℕ) (parts : List Part) (part : Part) (own : Place) → slice_get parts element ≡ Some part → slice_get part.places position ≡ Some own → own.synced ≡ false
@@ -150,7 +147,7 @@ fewer_parts : (position element : ℕ) (parts : List Part) (part : Part) (own : 
 fewer_parts position element [] part own part_at at out = tt
 fewer_parts position zero (one ∷ parts) part own part_at at out =
     let same : one ≡ part = cc in
-    ((refl, fewer_places position one.places own (ap (λ (x : Part). slice_get x.places position) same ∙ at) out), same_parts parts)
+    ((refl, fewer_places position one.places own (ap (λ (x : Part). slice_get x.places position) same ∙ at) out), all_itself parts)
 fewer_parts position (suc element) (one ∷ parts) part own part_at at out = ((refl, same_places one.places), fewer_parts position element parts part own part_at at out)
 
 pub synced_within : (v : Volume) (element position : ℕ) → IsOut v element position → is_within v ≡ true → is_within (in_sync element position v) ≡ true
@@ -203,7 +200,7 @@ before_places row (suc position) (place ∷ places) = (inr (refl, refl, refl), b
 
 before_parts : (position row element : ℕ) (parts : List Part) → AreFewerParts (changed_item (part_noted position row) element parts) parts
 before_parts position row element [] = tt
-before_parts position row zero (part ∷ parts) = ((refl, before_places row position part.places), same_parts parts)
+before_parts position row zero (part ∷ parts) = ((refl, before_places row position part.places), all_itself parts)
 before_parts position row (suc element) (part ∷ parts) = ((refl, same_places part.places), before_parts position row element parts)
 
 pub noted_within : (v : Volume) (element position row : ℕ) → is_within v ≡ true → is_within (noted element position row v) ≡ true

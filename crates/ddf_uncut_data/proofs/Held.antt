@@ -2,6 +2,7 @@
 use Rattle.std.proofs.Common.{◌≡◌, ◌≢◌, ◌∙◌, ℕ, zero, suc, ◌+◌, ◌<◌, Bool, false, not, List, [], ◌∷◌, Option, Some, None, refl, sym, ap, arith, map, length, slice_get}
 use Rattle.std.specs.Prelude.{option_map, slice_index_or, if◌then◌else◌}
 use Rattle.std.specs.List.{range_with_len}
+use Rattle.ddf_lemmas.proofs.Options.{some_from_is_some}
 use Rattle.ddf_bytes.specs.Counts.{Rose}
 use Rattle.ddf_bay.specs.Sectors.{Image}
 use Rattle.ddf_array.specs.declared.part.Part.{Part}
@@ -17,11 +18,10 @@ use Rattle.ddf_read.specs.Reading.{IsGivenBy}
 use Rattle.ddf_resync.specs.declared.outcome.Scrub.{Scrub}
 use Rattle.ddf_resync.specs.declared.outcome.Scrub.TheVariants.{Clean, Differs}
 use Rattle.ddf_resync.specs.Scrubbing.{IsScrubbed}
-use Rattle.ddf_data_array.specs.Allowed.{Allowed, May}
+use Rattle.ddf_data_array.specs.Allowed.{May}
 use Rattle.ddf_data_array.specs.Changing.{with_mark}
-use Rattle.ddf_data_array.specs.Kept.{IsKeptData}
 use Rattle.ddf_data_array.specs.Rows.{AreAlikeThroughout}
-use Rattle.ddf_data_array.proofs.Consistent.{block_below, some_item}
+use Rattle.ddf_data_array.proofs.Consistent.{block_below}
 use Rattle.ddf_data_array.proofs.From.{source_of}
 use Rattle.ddf_data_array.proofs.Given.{read_may}
 use Rattle.ddf_data_array.proofs.Same.{kept_same}
@@ -31,11 +31,6 @@ use Rattle.ddf_uncut_data.specs.Blocks.{HoldsBlocks, exactly, none_absent}
 pub only_bytes : (one bytes : List ℕ) → May (Some (one ∷ [])) bytes → bytes ≡ one
 only_bytes one bytes (zero, e) = cc
 only_bytes one bytes (suc k, e) = absurd (cc)
-
--- An array that keeps what each of its blocks may have keeps also what they may have by other words.
-pub kept_by : (is_absent : ℕ → ℕ → Bool) (v : Volume) (image : Image) (one other : Allowed) → ((block : ℕ) (bytes : List ℕ) → May (one block) bytes → May (other block) bytes)
-    → IsKeptData is_absent v image one → IsKeptData is_absent v image other
-kept_by is_absent v image one other may kept = record { sound = kept.sound; reads = λ block k source at. may block (given image source) (kept.reads block k source at); rows = kept.rows }
 
 -- ---- reads
 
@@ -59,7 +54,7 @@ given_is old new v image blocks holds block bytes is = only_bytes (blocks block)
 
 pub value_held : (v : Volume) (image : Image) (blocks : ℕ → List ℕ) → HoldsBlocks v image blocks → (block : ℕ) → block < capacity v → value v image block ≡ Some (blocks block)
 value_held v image blocks holds block below =
-    let there = some_item (value v image block) (some_value v image block holds.is_volume holds.within below) in
+    let there = some_from_is_some (value v image block) (some_value v image block holds.is_volume holds.within below) in
     there.1 ∙ ap (λ (l : List ℕ). Some l) (value_is v image blocks holds block there.0 there.1)
 
 -- only blocks of the array count

@@ -12,9 +12,6 @@ use Rattle.ddf_data_array.specs.Fewer.{IsFewer, LeavesRows}
 use Rattle.ddf_data_array.proofs.LessRows.{kept_less, few_away}
 use Rattle.ddf_uncut_data.specs.Blocks.{HoldsBlocks, exactly, none_absent}
 
-true_false : (b : Bool) → b ≡ true → b ≡ false → ⊥
-true_false b a c = cc
-
 each_within : (mirrored : Bool) (parts : List Part) → mirrored ≡ false → (if mirrored then list_any is_part_within parts else list_all is_part_within parts) ≡ true → list_all is_part_within parts ≡ true
 each_within true parts apart within = absurd (cc)
 each_within false parts apart within = within

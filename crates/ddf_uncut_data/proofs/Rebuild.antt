@@ -1,8 +1,6 @@
 -- What the blocks of an array have while a position of it is rebuilt, and once it is in sync.
-use Rattle.std.proofs.Common.{◌≡◌, ◌∙◌, inr, ⊎_elim, ℕ, ◌+◌, ◌*◌, ◌≤◌, List, Some, refl, sym, ap, arith, length, slice_get}
-use Rattle.std.proofs.Math.Nat.{mul-le-mul_right}
+use Rattle.std.proofs.Common.{◌≡◌, ◌∙◌, inr, ⊎_elim, ℕ, ◌+◌, ◌≤◌, List, Some, refl, sym, ap, length, slice_get}
 use Rattle.ddf_bay.specs.Sectors.{Image}
-use Rattle.ddf_primary.specs.Cells.{height_of}
 use Rattle.ddf_array.specs.declared.part.Part.{Part}
 use Rattle.ddf_array.specs.declared.place.Place.{Place}
 use Rattle.ddf_array.specs.Sound.{AreSectors}
@@ -12,6 +10,7 @@ use Rattle.ddf_cells.specs.Writing.{StaysBut}
 use Rattle.ddf_cells.proofs.Alike.{depth_below, wanted_same}
 use Rattle.ddf_rebuild.specs.Rebuilding.{HasRebuilt}
 use Rattle.ddf_rebuild.specs.Target.{IsOut, IsTarget, IsTargetCell, row_count}
+use Rattle.ddf_rebuild.proofs.Common.{fewer_rows}
 use Rattle.ddf_data_array.specs.Changing.{in_sync, noted}
 use Rattle.ddf_data_array.specs.Rows.{AreAlikeThroughout, GoesOnBehind, IsFirstOut}
 use Rattle.ddf_data_array.proofs.FinishedRows.{kept_finished}
@@ -23,13 +22,6 @@ use Rattle.ddf_uncut_data.proofs.Ground.{noted_apart, noted_volume, noted_within
 use Rattle.ddf_uncut_data.proofs.Held.{holds_same}
 
 -- ---- rows
-
--- rows of which the first count
-fewer_rows : (v : Volume) (element position few many : ℕ) (image : Image) → few ≤ many → HasRebuilt v element position 0 many image image → HasRebuilt v element position 0 few image image
-fewer_rows v element position few many image le set part place slot sector target rows =
-    let to = rows.to_is in
-    let grows : few * height_of part.shape ≤ many * height_of part.shape = mul-le-mul_right (height_of part.shape) le in
-    set part place slot sector target (record { from_is = rows.from_is; to_is = omega (arith, to, grows); below = rows.below })
 
 -- a sector of the position is one of its extent
 target_lies : (v : Volume) (known : IsVolume v) (element position from to slot lba : ℕ) → (cell : IsTargetCell v element position from to slot lba) → LiesAt v element position cell.sector slot lba

@@ -2,9 +2,10 @@
 use Rattle.std.proofs.Common.{◌≡◌, ◌∙◌, inl, inr, ⊎_elim, ℕ, zero, suc, Bool, true, false, List, [], ◌∷◌, Option, Some, None, refl, sym, ap, arith, slice_get, length, ◌&&◌}
 use Rattle.std.specs.Prelude.{is_some, nat_le, if◌then◌else◌}
 use Rattle.std.specs.List.{list_all, list_any}
+use Rattle.ddf_lemmas.proofs.Lists.{list_all_from}
+use Rattle.ddf_lemmas.proofs.Options.{same_some}
 use Rattle.ddf_bay.specs.Sectors.{Image}
 use Rattle.ddf_data_array.proofs.LessRows.{enough}
-use Rattle.ddf_secondary.proofs.SizeFacts.{list_all_from}
 use Rattle.ddf_array.specs.declared.part.Part.{Part}
 use Rattle.ddf_array.specs.declared.place.Place.{Place}
 use Rattle.ddf_array.specs.Apart.{IsApart}
@@ -19,15 +20,12 @@ use Rattle.ddf_data_array.specs.Fewer.{AreFewerParts, ArePlaces, HasFewerRows, I
 use Rattle.ddf_data_array.specs.Rows.{HasNoRows, IsFirstOut}
 use Rattle.ddf_data_array.proofs.Fewer.{same_parts as same_part_count}
 use Rattle.ddf_data_array.proofs.Items.{changed_cases, few_away}
+use Rattle.ddf_data_array.proofs.Noted.{all_itself}
 use Rattle.ddf_uncut_data.specs.Blocks.{HoldsBlocks}
 use Rattle.ddf_uncut_data.specs.Replaced.{part_with, replaced_place, with_place}
 use Rattle.ddf_uncut_data.specs.Whole.{IsWhole, IsWholeBut}
 use Rattle.ddf_uncut_data.proofs.Less.{holds_less}
-use Rattle.ddf_uncut_data.proofs.Whole.{in_sync_of, same_parts, same_places}
-
-some_is : {X : Type 0} (o : Option X) (one other : X) → o ≡ Some one → o ≡ Some other → one ≡ other
-some_is None one other a b = absurd (cc)
-some_is (Some x) one other a b = cc
+use Rattle.ddf_uncut_data.proofs.Whole.{in_sync_of, same_places}
 
 -- ---- it has fewer places
 
@@ -38,7 +36,7 @@ fewer_places (suc position) new (place ∷ places) gone = (inr (refl, refl, refl
 
 fewer_parts : (element position : ℕ) (new : Place) (parts : List Part) → is_available new ≡ false → AreFewerParts parts (changed_item (part_with position new) element parts)
 fewer_parts element position new [] gone = tt
-fewer_parts zero position new (part ∷ parts) gone = ((refl, fewer_places position new part.places gone), same_parts parts)
+fewer_parts zero position new (part ∷ parts) gone = ((refl, fewer_places position new part.places gone), all_itself parts)
 fewer_parts (suc element) position new (part ∷ parts) gone = ((refl, same_places part.places), fewer_parts element position new parts gone)
 
 stays : (was place : Place) → was ≡ place → HasFewerRows was place
@@ -48,16 +46,16 @@ module _ (v : Volume) (element position : ℕ) (new : Place) where
   rows_left : new.row ≡ 0 → LeavesRows v (with_place element position new v)
   rows_left none k q one other was place one_at other_at was_at place_at = ⊎_elim
       (λ is.
-      let same : is.item ≡ one = some_is (slice_get v.parts k) is.item one is.is_item one_at in
+      let same : is.item ≡ one = same_some (slice_get v.parts k) is.item one is.is_item one_at in
       let at : slice_get (changed_item (replaced_place new) position one.places) q ≡ Some place =
       ap (λ (x : Part). slice_get (changed_item (replaced_place new) position x.places) q) (sym same) ∙ ap (λ (x : Part). slice_get x.places q) (sym is.is_changed) ∙ place_at in
       ⊎_elim
       (λ own. inl (ap (λ (x : Place). x.row) own.is_changed ∙ none))
-      (λ apart. stays was place (some_is (slice_get one.places q) was place was_at apart.1))
+      (λ apart. stays was place (same_some (slice_get one.places q) was place was_at apart.1))
       (changed_cases (replaced_place new) position one.places q place at))
       (λ apart.
-      let same : other ≡ one = some_is (slice_get v.parts k) other one apart.1 one_at in
-      stays was place (some_is (slice_get one.places q) was place was_at (ap (λ (x : Part). slice_get x.places q) (sym same) ∙ place_at)))
+      let same : other ≡ one = same_some (slice_get v.parts k) other one apart.1 one_at in
+      stays was place (same_some (slice_get one.places q) was place was_at (ap (λ (x : Part). slice_get x.places q) (sym same) ∙ place_at)))
       (changed_cases (part_with position new) element v.parts k other other_at)
 
   pub holds_replaced : (image : Image) (blocks : ℕ → List ℕ) → is_available new ≡ false → new.row ≡ 0 → IsVolume (with_place element position new v) → IsApart (with_place element position new v)
@@ -102,8 +100,8 @@ whole_synced v element position out whole k q other place other_at place_at = �
     let at : slice_get (changed_item place_in_sync position is.item.places) q ≡ Some place = ap (λ (x : Part). slice_get x.places q) (sym is.is_changed) ∙ place_at in
     ⊎_elim
     (λ own.
-    let same_part : is.item ≡ out.part = some_is (slice_get v.parts element) is.item out.part (ap (slice_get v.parts) (sym is.same_place) ∙ is.is_item) out.is_target.is_part in
-    let same : own.item ≡ out.place = some_is (slice_get out.part.places position) own.item out.place
+    let same_part : is.item ≡ out.part = same_some (slice_get v.parts element) is.item out.part (ap (slice_get v.parts) (sym is.same_place) ∙ is.is_item) out.is_target.is_part in
+    let same : own.item ≡ out.place = same_some (slice_get out.part.places position) own.item out.place
     (ap (λ (x : Part). slice_get x.places position) (sym same_part) ∙ ap (slice_get is.item.places) (sym own.same_place) ∙ own.is_item) out.is_target.is_place in
     ap is_available own.is_changed ∙ synced_there true own.item.slot out.slot (ap (λ (x : Place). x.slot) same ∙ out.is_target.is_there) refl)
     (λ apart. ⊎_elim (λ same. absurd (apart.0 same.1)) (λ there. there) (whole k q is.item place is.is_item apart.1))

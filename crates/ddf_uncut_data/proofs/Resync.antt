@@ -1,6 +1,7 @@
 -- What the blocks of an array have once it was resynced.
-use Rattle.std.proofs.Common.{◌≡◌, ◌∙◌, ⊎_elim, ℕ, suc, ◌<◌, true, false, List, [], ◌∷◌, Option, Some, None, refl, sym, ap, subst, map, slice_get}
+use Rattle.std.proofs.Common.{◌≡◌, ◌∙◌, ⊎_elim, ℕ, suc, ◌<◌, true, false, List, [], ◌∷◌, Option, Some, None, refl, sym, ap, map, slice_get}
 use Rattle.std.specs.Prelude.{unwrap_or}
+use Rattle.ddf_lemmas.proofs.Options.{some_from_is_some}
 use Rattle.ddf_bay.specs.Sectors.{Image}
 use Rattle.ddf_parity.specs.Xor.{zeros}
 use Rattle.ddf_array.specs.declared.site.Site.{Site}
@@ -19,7 +20,8 @@ use Rattle.ddf_data_array.specs.Changing.{with_mark}
 use Rattle.ddf_data_array.specs.Kept.{IsKeptData}
 use Rattle.ddf_cells.proofs.Alike.{copy_is_cell}
 use Rattle.ddf_read.proofs.SourceSlots.{copy_on}
-use Rattle.ddf_data_array.proofs.Consistent.{block_below, kept_consistent, whole_consistent, some_item}
+use Rattle.ddf_read.proofs.Common.{first_taken_by}
+use Rattle.ddf_data_array.proofs.Consistent.{block_below, kept_consistent, whole_consistent}
 use Rattle.ddf_data_array.proofs.From.{source_at, source_from}
 use Rattle.ddf_data_array.proofs.Given.{have_cells}
 use Rattle.ddf_uncut_data.specs.Blank.{IsBlank}
@@ -28,13 +30,6 @@ use Rattle.ddf_uncut_data.specs.Whole.{IsWhole}
 use Rattle.ddf_uncut_data.proofs.Whole.{marked_volume, not_degraded, whole_rows}
 
 -- ---- what a resync read
-
-first_held : (failed : ℕ → Type 0) (image : Image) (cells : List Site) (one : Site) (bytes : List ℕ) → slice_get cells 0 ≡ Some one → (failed one.slot → ⊥) → IsGivenBy failed image (map copy cells) bytes
-    → bytes ≡ bytes_at image one
-first_held failed image [] one bytes at good is = absurd is
-first_held failed image (cell ∷ cells) one bytes at good is =
-    let same : cell ≡ one = cc in
-    ⊎_elim (λ read. read ∙ ap (bytes_at image) same) (λ later. absurd (good (subst (λ (site : Site). failed site.slot) same later.0))) is
 
 all_held : (failed : ℕ → Type 0) (image : Image) (held : List ℕ) (cells : List Site) (bytes : List ℕ) → ((k : ℕ) (one : Site) → slice_get cells k ≡ Some one → bytes_at image one ≡ held)
     → IsGivenBy failed image (map copy cells) bytes → bytes ≡ held
@@ -72,14 +67,14 @@ module _ (failed : ℕ → Type 0) (v : Volume) (before behind : Image) (known :
   holds_resynced = holds_by (held_blocks v behind) (λ block bytes below is. sym (ap (λ (o : Option (List ℕ)). unwrap_or o []) is))
 
   first : (block : ℕ) → block < capacity v → (one : Site) × (slice_get (copies v block) 0 ≡ Some one)
-  first block below = some_item (slice_get (copies v block) 0) (have_cells v known within (not_degraded v whole) block below)
+  first block below = some_from_is_some (slice_get (copies v block) 0) (have_cells v known within (not_degraded v whole) block below)
 
   -- Where no read failed these are what it held before.
   pub value_stays : ((slot : ℕ) → IsOn v slot → failed slot → ⊥) → (block : ℕ) → block < capacity v → value v behind block ≡ value v before block
   value_stays good block below =
       let one = first block below in
       value_copy v behind block one.0 one.1
-      ∙ ap (λ (l : List ℕ). Some l) (first_held failed before (copies v block) one.0 (bytes_at behind one.0) one.1 (good one.0.slot (copy_on v block one.0 one.1)) (has.given block 0 one.0 one.1))
+      ∙ ap (λ (l : List ℕ). Some l) (first_taken_by failed before (copies v block) one.0 (bytes_at behind one.0) one.1 (good one.0.slot (copy_on v block one.0 one.1)) (has.given block 0 one.0 one.1))
       ∙ sym (value_copy v before block one.0 one.1)
 
   -- An array of zeros holds zeros.

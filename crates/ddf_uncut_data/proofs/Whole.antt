@@ -1,9 +1,11 @@
 -- What an array has that lacks no place.
-use Rattle.std.proofs.Common.{◌≡◌, inl, inr, ℕ, suc, Bool, true, false, not, List, [], ◌∷◌, Option, Some, refl, slice_get, ◌&&◌, ◌||◌}
-use Rattle.std.specs.Prelude.{is_some}
+use Rattle.std.proofs.Common.{◌≡◌, inl, inr, ℕ, suc, Bool, true, false, not, List, [], ◌∷◌, Some, refl, slice_get, ◌&&◌}
 use Rattle.std.specs.List.{list_all, list_any}
+use Rattle.std.proofs.lemmas.Bool.{or_from}
+use Rattle.ddf_lemmas.proofs.Lists.{list_all_from}
+use Rattle.ddf_lemmas.proofs.Options.{first_of_and_some}
+use Rattle.ddf_lemmas.proofs.Tests.{true_false}
 use Rattle.ddf_bay.specs.Sectors.{Image}
-use Rattle.ddf_secondary.proofs.SizeFacts.{list_all_from}
 use Rattle.ddf_array.specs.declared.part.Part.{Part}
 use Rattle.ddf_array.specs.declared.place.Place.{Place}
 use Rattle.ddf_array.specs.Levels.{keeps_parity}
@@ -13,10 +15,11 @@ use Rattle.ddf_cells.specs.Degraded.{is_degraded, lacks_place}
 use Rattle.ddf_rebuild.specs.Target.{IsTarget}
 use Rattle.ddf_data_array.specs.Allowed.{Allowed}
 use Rattle.ddf_data_array.specs.Changing.{with_mark}
-use Rattle.ddf_data_array.specs.Fewer.{AreFewerParts, ArePlaces, IsFewerPlace}
+use Rattle.ddf_data_array.specs.Fewer.{ArePlaces, IsFewerPlace}
 use Rattle.ddf_data_array.specs.Kept.{IsKeptData}
 use Rattle.ddf_data_array.specs.Rows.{AreRowsKept}
 use Rattle.ddf_data_array.proofs.LessRows.{kept_less}
+use Rattle.ddf_data_array.proofs.Noted.{all_itself}
 use Rattle.ddf_uncut_data.specs.Whole.{IsWhole}
 
 -- ---- no element lacks a place
@@ -26,17 +29,11 @@ not_lacking true true e = refl
 not_lacking false true e = refl
 not_lacking keeps false e = absurd (cc)
 
-none_of : (a b : Bool) → a ≡ false → b ≡ false → (a || b) ≡ false
-none_of false false a b = refl
-none_of true false a b = absurd (cc)
-none_of false true a b = absurd (cc)
-none_of true true a b = absurd (cc)
-
 none_lacks : (parts : List Part) → ((element position : ℕ) (part : Part) (place : Place) → slice_get parts element ≡ Some part → slice_get part.places position ≡ Some place → is_available place ≡ true)
     → list_any lacks_place parts ≡ false
 none_lacks [] whole = refl
 none_lacks (part ∷ parts) whole =
-    none_of (lacks_place part) (list_any lacks_place parts)
+    or_from (lacks_place part) (list_any lacks_place parts)
     (not_lacking (keeps_parity part.shape.layout) (list_all is_available part.places) (list_all_from is_available part.places (λ k place at. whole 0 k part place refl at)))
     (none_lacks parts (λ element position other place. whole (suc element) position other place))
 
@@ -45,15 +42,8 @@ not_degraded v whole = none_lacks v.parts whole
 
 -- ---- no position is out of sync
 
-synced_by : (synced : Bool) (slot : Option ℕ) → (synced && is_some slot) ≡ true → synced ≡ true
-synced_by true slot e = refl
-synced_by false slot e = absurd (cc)
-
 pub in_sync_of : (place : Place) → is_available place ≡ true → place.synced ≡ true
-in_sync_of place there = synced_by place.synced place.slot there
-
-true_false : (b : Bool) → b ≡ true → b ≡ false → ⊥
-true_false b a c = cc
+in_sync_of place there = first_of_and_some place.synced place.slot there
 
 pub no_target : (v : Volume) → IsWhole v → (element position : ℕ) (part : Part) (place : Place) (slot : ℕ) → IsTarget v element position part place slot → ⊥
 no_target v whole element position part place slot target =
@@ -71,16 +61,12 @@ pub same_places : (places : List Place) → ArePlaces IsFewerPlace places places
 same_places [] = tt
 same_places (place ∷ places) = (inr (refl, refl, refl), same_places places)
 
-pub same_parts : (parts : List Part) → AreFewerParts parts parts
-same_parts [] = tt
-same_parts (part ∷ parts) = ((refl, same_places part.places), same_parts parts)
-
 pub marked_volume : (marked : Bool) (v : Volume) → IsVolume v → IsVolume (with_mark marked v)
 marked_volume marked v known = record { array_is = known.array_is; has_sizes = known.has_sizes; are_parts = known.are_parts }
 
 -- A whole array keeps under a mark what it keeps.
 pub kept_marked : (is_absent : ℕ → ℕ → Bool) (v : Volume) (image : Image) (allowed : Allowed) → IsVolume v → IsWhole v → IsKeptData is_absent v image allowed → IsKeptData is_absent (with_mark true v) image allowed
 kept_marked is_absent v image allowed known whole kept =
-    kept_less is_absent is_absent v (with_mark true v) image allowed (marked_volume true v known) (record { mark_is = inl refl; same_tiers = refl; fewer_parts = same_parts v.parts })
+    kept_less is_absent is_absent v (with_mark true v) image allowed (marked_volume true v known) (record { mark_is = inl refl; same_tiers = refl; fewer_parts = all_itself v.parts })
     (record { stays = λ unmarked within element one other one_at other_at keeps lacks none. absurd (true_false true refl unmarked) })
     (λ element position one other was place one_at other_at was_at place_at. inr (inl (in_sync_of place (whole element position other place other_at place_at)))) kept

@@ -14,9 +14,10 @@ use Rattle.ddf_data_array.specs.Kept.{IsKeptData}
 use Rattle.ddf_data_array.proofs.Consistent.{kept_unmarked, value_may, whole_consistent}
 use Rattle.ddf_data_array.proofs.Given.{have_cells}
 use Rattle.ddf_data_array.proofs.Written.{kept_once}
+use Rattle.ddf_data_array.proofs.Common.{kept_more}
 use Rattle.ddf_uncut_data.specs.Blocks.{HoldsBlocks, exactly, none_absent, with_sectors}
 use Rattle.ddf_uncut_data.specs.Whole.{IsWhole}
-use Rattle.ddf_uncut_data.proofs.Held.{is_redundant_now, kept_by, unmarked_is}
+use Rattle.ddf_uncut_data.proofs.Held.{is_redundant_now, unmarked_is}
 use Rattle.ddf_uncut_data.proofs.Whole.{kept_marked, marked_volume, not_degraded, whole_rows}
 
 -- what a block may have that was written, or wasn't
@@ -57,7 +58,7 @@ module _ (failed : ℕ → Type 0) (marked : Bool) (v : Volume) (start : ℕ) (s
       apart = holds.apart;
       unmarked = holds.unmarked;
       within = holds.within;
-      kept = kept_by none_absent v behind (once_written (exactly blocks) start sectors) (exactly (with_sectors start sectors blocks))
+      kept = kept_more none_absent v behind (once_written (exactly blocks) start sectors) (exactly (with_sectors start sectors blocks))
           (λ block bytes. may_by (is_in start (length sectors) block) (new_bytes start sectors block) (blocks block) bytes)
           (subst (λ (w : Volume). IsKeptData none_absent w behind (once_written (exactly blocks) start sectors)) (unmarked_is v holds.unmarked) cleared);
     }

@@ -27,7 +27,7 @@ use Rattle.ddf_uncut_group.proofs.SettledStep.{disks_behind, seats_behind, told_
 use Rattle.ddf_uncut_group.proofs.StepsSettled.{readied_nothing}
 use Rattle.ddf_uncut_group.proofs.StepsSplit.{one_first, one_same, readied_behind, readied_none}
 
-seats_long : (disks : List Seated) → length (seats_in disks) ≡ length disks
+pub seats_long : (disks : List Seated) → length (seats_in disks) ≡ length disks
 seats_long [] = refl
 seats_long (disk ∷ disks) = ap suc (seats_long disks)
 

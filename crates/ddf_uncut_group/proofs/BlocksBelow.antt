@@ -4,6 +4,7 @@ use Rattle.std.proofs.lemmas.Bool.{eq-eqb, eqb-true}
 use Rattle.std.proofs.Math.Path.{fun_ext}
 use Rattle.std.specs.Prelude.{find, option_map, slice_get, slice_index, unwrap_or}
 use Rattle.std.specs.List.{AllByRecursion}
+use Rattle.ddf_lemmas.proofs.Lists.{all_from, found_place}
 use Rattle.ddf_bay.specs.Sectors.{Image}
 use Rattle.ddf_header.specs.declared.reading.Header.{Header}
 use Rattle.ddf_copy.specs.declared.fault.AnchorFault.{AnchorFault}
@@ -12,7 +13,7 @@ use Rattle.ddf_copy.specs.declared.which.Which.TheVariants.{Primary, Secondary}
 use Rattle.ddf_copy.specs.Anchor.{anchor_at}
 use Rattle.ddf_copy.specs.Copies.{newest_at, newest_under}
 use Rattle.ddf_config.specs.declared.seat.Seat.{Seat}
-use Rattle.ddf_rewrite.proofs.Lists.{all_at, all_by_get, found_place}
+use Rattle.ddf_rewrite.proofs.Lists.{all_at}
 use Rattle.ddf_seats.specs.Group.{GroupValue}
 use Rattle.ddf_seats.specs.Changing.{SlotsRise}
 use Rattle.ddf_history_steps.specs.Floors.{HasFloor}
@@ -86,7 +87,7 @@ module _ (sizes : List ℕ) (old new : Image) (seats : List Seat) (rise : SlotsR
   -- The disks have the floors of their seats.
   pub floors_same : AllByRecursion (λ (seat : Seat). HasFloor (slice_index sizes seat.slot) (new seat.slot) seat.floor) seats
   floors_same =
-      all_by_get (λ (seat : Seat). HasFloor (slice_index sizes seat.slot) (new seat.slot) seat.floor) seats
+      all_from (λ (seat : Seat). HasFloor (slice_index sizes seat.slot) (new seat.slot) seat.floor) seats
       (λ k seat at.
       floor_same seat.floor (old seat.slot) (new seat.slot) (subst (λ (n : ℕ). AreSameFrom n (old seat.slot) (new seat.slot)) (floor_found seats rise k seat at) (same_from seat.slot))
       (slice_index sizes seat.slot)

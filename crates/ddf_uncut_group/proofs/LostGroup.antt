@@ -1,12 +1,15 @@
 -- A group of which members are absent, and which all disks that are left tell: they tell it once the loss was written.
-use Rattle.std.proofs.Common.{◌≡◌, ◌≢◌, ◌⊎◌, ℕ, ◌<◌, ◌^◌, Bool, true, false, not, ◌&&◌, eqb, List, [], ◌∷◌, length, map, fold, Option, Some, None, Ok, refl, ap, sym, ◌∙◌, subst, inl, inr, arith, length-set, if◌then◌else◌}
+use Rattle.std.proofs.Common.{◌≡◌, ◌≢◌, ◌⊎◌, ℕ, ◌<◌, ◌^◌, Bool, true, false, not, eqb, List, [], ◌∷◌, length, map, fold, Option, Some, None, Ok, refl, ap, sym, ◌∙◌, subst, inl, inr, arith, if◌then◌else◌}
 use Rattle.std.proofs.lemmas.Bool.{and_parts, eq-eqb, false≢true}
 use Rattle.std.proofs.lemmas.List.{length-map}
-use Rattle.std.proofs.lemmas.Option.{slice_get-map}
+use Rattle.std.proofs.lemmas.Option.{slice_get-map, slice_get_within}
 use Rattle.std.specs.Prelude.{option_map, slice_get, unwrap_or}
 use Rattle.std.specs.List.{AllByRecursion, list_any}
 use Rattle.std.specs.Option.{option_map_or}
 use Rattle.std.specs.Str.{bytes_eq}
+use Rattle.std.proofs.lemmas.Map.Keys.{any_passes_from_place}
+use Rattle.ddf_lemmas.proofs.Lists.{all_from, bytes_same, filter_whole, in_map, mapped_at}
+use Rattle.ddf_lemmas.proofs.Tests.{all_three}
 use Rattle.ddf_copy.specs.declared.newest_copy.Newest.{Newest}
 use Rattle.ddf_copy.specs.declared.newest_copy.Newest.TheVariants as newests
 use Rattle.ddf_copy.specs.Written.{CanBeCopy}
@@ -17,7 +20,6 @@ use Rattle.ddf_config.specs.Members.{is_current}
 use Rattle.ddf_plan.specs.Lose.{is_among}
 use Rattle.ddf_view.specs.Differ.{difference}
 use Rattle.ddf_view.specs.View.{View, lists_itself, view_of}
-use Rattle.ddf_view.proofs.Tests.{bytes_same}
 use Rattle.ddf_group.specs.declared.shown.Shown.{Shown}
 use Rattle.ddf_group.specs.declared.shown.Shown.TheVariants.{Nothing}
 use Rattle.ddf_group.specs.Assembled.{absent, has_reference, is_absent}
@@ -30,7 +32,7 @@ use Rattle.ddf_rewrite.specs.Before.{Before, before}
 use Rattle.ddf_rewrite.specs.Changing.{CanChange}
 use Rattle.ddf_rewrite.specs.Copies.{changed_copy}
 use Rattle.ddf_rewrite.proofs.Agreeing.{copies_agree}
-use Rattle.ddf_rewrite.proofs.Lists.{all_at, all_by_get, all_mapped, get_map, map_get}
+use Rattle.ddf_rewrite.proofs.Lists.{all_at, all_mapped}
 use Rattle.ddf_rewrite.proofs.Roomy.{change_can, roomy_change_can}
 use Rattle.ddf_seats.specs.declared.seated.Seated.{Seated}
 use Rattle.ddf_assembly.specs.Assembled.{IsAssembledGroup}
@@ -50,7 +52,7 @@ use Rattle.ddf_steps.proofs.CommittedLevels.{level_else, level_here, seated_afte
 use Rattle.ddf_assembly.proofs.LeftBefore.{level_at}
 use Rattle.ddf_recovery.proofs.LeftLists.{IsNoneOf, one_or_none}
 use Rattle.ddf_assembly.proofs.LeftMembers.{AreApart, IsCurrentIn, lists_from, table_current}
-use Rattle.ddf_recovery.proofs.LeftStep.{own_reference, same_seat, same_view}
+use Rattle.ddf_recovery.proofs.LeftStep.{own_reference, same_seat, same_view, long_still}
 use Rattle.ddf_recovery.proofs.Lost.{lost_held}
 use Rattle.ddf_steps.proofs.OneLength.{HasRoom, can_try_all, has_room, led_by_all, room_on}
 use Rattle.ddf_steps.proofs.Rewritten.{capacities, closed_can}
@@ -61,10 +63,9 @@ use Rattle.ddf_uncut_group.specs.Settled.{IsToldByAll}
 use Rattle.ddf_uncut_group.specs.Without.{group_lost}
 use Rattle.ddf_uncut_group.proofs.LostMembers.{lost_apart, lost_stays, lost_was}
 use Rattle.ddf_uncut_group.proofs.SettledFound.{found_assembled, found_settled}
-use Rattle.ddf_uncut_group.proofs.SettledLists.{filter_whole, some_below}
 use Rattle.ddf_uncut_group.proofs.SettledStep.{kept_seats, newest_levelled}
 use Rattle.ddf_uncut_group.proofs.SettledTelling.{AreTelling, IsTelling, found_telling, none_concerned, reads_full, telling_concerned, twins_kept}
-use Rattle.ddf_uncut_group.proofs.UnpluggedLists.{any_some, begins, kept_none}
+use Rattle.ddf_uncut_group.proofs.UnpluggedLists.{begins, kept_none}
 
 -- Its newest copies give the group, and all disks that are left tell its configuration, fully, on their seats. Members are absent; each other one that isn't missing has a seat,
 -- and no other slot has a newest copy.
@@ -89,13 +90,6 @@ slots_by_seats (disk ∷ disks) = ap (λ (rest : List ℕ). disk.seat.slot ∷ r
 -- What a slot shows is by its newest copy.
 slot_by : (newest : List (Option Newest)) (slot : ℕ) → slot_at (map shown_of newest) slot ≡ unwrap_or (option_map shown_of (slice_get newest slot)) Nothing
 slot_by newest slot = ap (λ (one : Option Shown). unwrap_or one Nothing) (slice_get-map shown_of newest slot)
-
-long_still : (newest : List (Option Newest)) (disks : List Seated) → length (fold with_level newest disks) ≡ length newest
-long_still newest [] = refl
-long_still newest (disk ∷ disks) = long_still (with_level newest disk) disks ∙ length-set newest disk.seat.slot (Some (newests.Level disk.copy))
-
-three : (a b c : Bool) → a ≡ true → b ≡ true → c ≡ true → (a && b && c) ≡ true
-three a b c p q r = ap (λ x. x && b && c) p ∙ ap (λ x. x && c) q ∙ r
 
 module _ (group : GroupValue) (told : IsToldWithout group) (timestamp : ℕ) where
   abbrev disks : List Seated
@@ -123,10 +117,10 @@ module _ (group : GroupValue) (told : IsToldWithout group) (timestamp : ℕ) whe
 
   leads_all : AllByRecursion (λ (disk : Seated). leads group.config disk ≡ true) disks
   leads_all =
-      all_by_get (λ (disk : Seated). leads group.config disk ≡ true) disks
+      all_from (λ (disk : Seated). leads group.config disk ≡ true) disks
       (λ k disk at.
       let is = told.are_telling.each k disk at in
-      three (bytes_eq disk.copy.header.guid group.config.group) (eqb disk.copy.header.sequence group.config.sequence) (lists_itself (view_of disk.copy))
+      all_three (bytes_eq disk.copy.header.guid group.config.group) (eqb disk.copy.header.sequence group.config.sequence) (lists_itself (view_of disk.copy))
       (ap (λ (guid : List ℕ). bytes_eq guid group.config.group) (same_group group.config disk.copy is.is_shown) ∙ bytes_same group.config.group)
       (eq-eqb disk.copy.header.sequence group.config.sequence (same_sequence group.config disk.copy is.is_shown))
       (lists_from group.config (view_of disk.copy) (view_of disk.copy).guid (view_of disk.copy).reference is.is_shown told.are_telling.apart is.is_current))
@@ -153,7 +147,7 @@ module _ (group : GroupValue) (told : IsToldWithout group) (timestamp : ℕ) whe
       ap (is_current next.members) (its_reference k disk at) ∙ table_current next.members (view_of disk.copy).guid (view_of disk.copy).reference apart_next (current_next k disk at)
 
   all_stay : AllByRecursion (λ (disk : Seated). stays_in next disk ≡ true) disks
-  all_stay = all_by_get (λ (disk : Seated). stays_in next disk ≡ true) disks stays
+  all_stay = all_from (λ (disk : Seated). stays_in next disk ≡ true) disks stays
 
   new_is : new ≡ map (rewritten led next timestamp) disks
   unfolding disks_after
@@ -180,11 +174,11 @@ module _ (group : GroupValue) (told : IsToldWithout group) (timestamp : ℕ) whe
 
   made_of : (k : ℕ) (made : Seated) → slice_get new k ≡ Some made → IsMade k made
   made_of k made at =
-      let own = map_get (rewritten led next timestamp) disks k made (sym (ap (λ (all : List Seated). slice_get all k) new_is) ∙ at) in
+      let own = in_map (rewritten led next timestamp) disks k made (sym (ap (λ (all : List Seated). slice_get all k) new_is) ∙ at) in
       record { disk = own.0; at = own.1; is_made = own.2 }
 
   make_at : (k : ℕ) (disk : Seated) → slice_get disks k ≡ Some disk → slice_get new k ≡ Some (rewritten led next timestamp disk)
-  make_at k disk at = ap (λ (all : List Seated). slice_get all k) new_is ∙ get_map (rewritten led next timestamp) disks k disk at
+  make_at k disk at = ap (λ (all : List Seated). slice_get all k) new_is ∙ mapped_at (rewritten led next timestamp) disks k disk at
 
   made_slot : (k : ℕ) (made : Seated) (own : IsMade k made) → made.seat.slot ≡ own.disk.seat.slot
   made_slot k made own = sym (ap (λ (one : Seated). one.seat.slot) own.is_made)
@@ -259,7 +253,7 @@ module _ (group : GroupValue) (told : IsToldWithout group) (timestamp : ℕ) whe
     below : (k : ℕ) (made : Seated) → slice_get new k ≡ Some made → made.seat.slot < length group.newest
     below k made at =
         let own = made_of k made at in
-        let low = some_below group.newest own.disk.seat.slot (Some (newests.Level own.disk.copy)) (told.are_telling.each k own.disk own.at).is_newest in
+        let low = slice_get_within group.newest own.disk.seat.slot (Some (newests.Level own.disk.copy)) (told.are_telling.each k own.disk own.at).is_newest in
         let same = made_slot k made own in
         omega (arith, low, same)
 
@@ -281,7 +275,7 @@ module _ (group : GroupValue) (told : IsToldWithout group) (timestamp : ℕ) whe
     after = map shown_of newest
 
     not_written : (slot : ℕ) → IsNoneOf (slots_in new) slot → (k : ℕ) (made : Seated) → slice_get new k ≡ Some made → slot ≢ made.seat.slot
-    not_written slot none k made at = all_at (λ (n : ℕ). slot ≢ n) (slots_in new) k made.seat.slot none (get_map (λ (one : Seated). one.seat.slot) new k made at)
+    not_written slot none k made at = all_at (λ (n : ℕ). slot ≢ n) (slots_in new) k made.seat.slot none (mapped_at (λ (one : Seated). one.seat.slot) new k made at)
 
     none_else : (slot : ℕ) → IsNoneOf (slots_in new) slot → slot_at after slot ≡ Nothing
     none_else slot none =
@@ -300,7 +294,7 @@ module _ (group : GroupValue) (told : IsToldWithout group) (timestamp : ℕ) whe
     still_concerned : (slot : ℕ) → is_concerned after group.config.group slot ≡ true → (is_concerned before_it group.config.group slot ≡ true) × (reference_at after slot ≡ reference_at before_it slot)
     still_concerned slot h = elim (one_or_none (slots_in new) slot) [
       | inl found ↦
-          let made = map_get (λ (one : Seated). one.seat.slot) new found.0 slot found.1 in
+          let made = in_map (λ (one : Seated). one.seat.slot) new found.0 slot found.1 in
           let own = made_of found.0 made.0 made.1 in
           let on_slot : own.disk.seat.slot ≡ slot = sym (made_slot found.0 made.0 own) ∙ made.2 in (
             subst (λ (n : ℕ). is_concerned before_it group.config.group n ≡ true) on_slot
@@ -361,7 +355,7 @@ module _ (group : GroupValue) (told : IsToldWithout group) (timestamp : ℕ) whe
               let there = make_at seat.0 seat.1 seat.2 in
               let own : IsMade seat.0 made = record { disk = seat.1; at = seat.2; is_made = refl } in
               let number : (view_of made.copy).reference ≡ entry.0 = its_number seat.0 made own ∙ sym (its_reference seat.0 seat.1 seat.2) ∙ seat.3 in
-              let some = any_some (has_reference after entry.0) (slots_in new) seat.0 made.seat.slot (get_map (λ (one : Seated). one.seat.slot) new seat.0 made there)
+              let some = any_passes_from_place (has_reference after entry.0) (slots_in new) seat.0 made.seat.slot (mapped_at (λ (one : Seated). one.seat.slot) new seat.0 made there)
               (ap (λ (o : Option ℕ). option_map_or (λ one. eqb one entry.0) o false) (new_reference seat.0 made there) ∙ eq-eqb (view_of made.copy).reference entry.0 number) in
               false≢true (sym (not_true (list_any (has_reference after entry.0) (slots_in new)) parts.1) ∙ some)
         ]
@@ -393,7 +387,7 @@ module _ (group : GroupValue) (told : IsToldWithout group) (timestamp : ℕ) whe
             ∙ ap (λ (seats : List Seat). Ok (record { config = next; seats = seats; absent = []; lagging = []; newest = newest })) (sym (ap seats_in is.2))
 
     copies_now : AllByRecursion (λ (disk : Seated). CanBeCopy disk.copy) new
-    copies_now = all_by_get (λ (disk : Seated). CanBeCopy disk.copy) new (λ k made at. (new_of k made (made_of k made at)).can)
+    copies_now = all_from (λ (disk : Seated). CanBeCopy disk.copy) new (λ k made at. (new_of k made (made_of k made at)).can)
 
     are_newest : AreNewest newest
     are_newest = newest_levelled group.newest new told.are_newest copies_now
@@ -409,7 +403,7 @@ module _ (group : GroupValue) (told : IsToldWithout group) (timestamp : ℕ) whe
       | inl here ↦
           subst (λ (n : ℕ). is_slot (slots_of (seats_in new)) n ≡ true) (sym here.3)
           (slot_is (slots_of (seats_in new)) here.0 here.1.seat.slot
-          (get_map (λ (seat : Seat). seat.slot) (seats_in new) here.0 here.1.seat (get_map (λ (disk : Seated). disk.seat) new here.0 here.1 here.2)))
+          (mapped_at (λ (seat : Seat). seat.slot) (seats_in new) here.0 here.1.seat (mapped_at (λ (disk : Seated). disk.seat) new here.0 here.1 here.2)))
       | inr none ↦
           subst (λ (seats : List Seat). is_slot (slots_of seats) slot ≡ true) (sym (same_seats ∙ told.are_seated))
           (told.none_beside slot found (sym (level_else group.newest new slot none) ∙ at))
@@ -423,6 +417,6 @@ module _ (group : GroupValue) (told : IsToldWithout group) (timestamp : ℕ) whe
       is_settled = settled_lost;
       some_seat = let same : length (seats_in new) ≡ length new = length-map new (λ (disk : Seated). disk.seat) in let some = counted in omega (arith, same, some);
       are_full = subst (λ (all : List Seated). AllByRecursion (λ (disk : Seated). ShowsFully (view_of disk.copy) next) all) (sym disks_lost)
-          (all_mapped (λ (disk : Seated). ShowsFully (view_of disk.copy) next) levelled new (all_by_get (λ (disk : Seated). ShowsFully (view_of (levelled disk).copy) next) new new_full));
+          (all_mapped (λ (disk : Seated). ShowsFully (view_of disk.copy) next) levelled new (all_from (λ (disk : Seated). ShowsFully (view_of (levelled disk).copy) next) new new_full));
       none_beside = beside_lost;
     }

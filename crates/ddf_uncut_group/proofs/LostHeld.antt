@@ -1,13 +1,13 @@
 -- What disks hold of a settled group of which one disk is left out, and once its loss was written to the others.
-use Rattle.std.proofs.Common.{◌≡◌, ℕ, zero, suc, ◌<◌, ◌^◌, Bool, true, false, not, eqb, List, [], ◌∷◌, length, Option, Some, None, Result, Ok, Err, refl, ap, sym, ◌∙◌, subst, length-set, if◌then◌else◌}
+use Rattle.std.proofs.Common.{◌≡◌, ℕ, zero, suc, ◌<◌, ◌^◌, Bool, true, false, not, eqb, List, [], ◌∷◌, length, Option, Some, None, Ok, Err, refl, ap, sym, ◌∙◌, subst, length-set, if◌then◌else◌}
 use Rattle.std.specs.Prelude.{slice_get, slice_index, slice_set}
 use Rattle.std.specs.List.{AllByRecursion}
+use Rattle.ddf_lemmas.proofs.Lists.{all_from, filter_get}
 use Rattle.ddf_bay.specs.Sectors.{Image}
 use Rattle.ddf_copy.specs.declared.newest_copy.Newest.{Newest}
 use Rattle.ddf_copy.specs.Copies.{newest_at}
 use Rattle.ddf_config.specs.declared.seat.Seat.{Seat}
 use Rattle.ddf_plan.specs.declared.change.Change.{Change}
-use Rattle.ddf_seats.specs.declared.fault.GroupFault.{GroupFault}
 use Rattle.ddf_seats.specs.Group.{GroupValue}
 use Rattle.ddf_recovery.specs.Ready.{readied, with_recovery}
 use Rattle.ddf_recovery.specs.Recovery.{config_lost, full_of_recovery, loss_spent, lost_step}
@@ -15,18 +15,17 @@ use Rattle.ddf_seats.specs.Leading.{leading}
 use Rattle.ddf_seats.specs.Seated.{seated}
 use Rattle.ddf_steps.specs.Steps.{Step}
 use Rattle.ddf_recovery.proofs.CommittedReadied.{disks_rewritten}
-use Rattle.ddf_recovery.proofs.ReadiedSteps.{has_room}
+use Rattle.ddf_recovery.proofs.ReadiedSteps.{has_room, Answer}
 use Rattle.ddf_history_steps.specs.Floors.{HasFloor}
 use Rattle.ddf_group_commands.specs.Written.{IsWritten}
 use Rattle.ddf_history_steps.specs.BlockFloors.{AreFloored}
 use Rattle.ddf_history_steps.proofs.Floored.{group_floored}
-use Rattle.ddf_rewrite.proofs.Lists.{all_at, all_by_get}
+use Rattle.ddf_rewrite.proofs.Lists.{all_at}
 use Rattle.ddf_uncut_group.specs.Settled.{AreSettledAs, IsToldByAll, newest_held}
 use Rattle.ddf_uncut_group.specs.Without.{group_lost, without_seat}
 use Rattle.ddf_uncut_group.proofs.LostGroup.{disks_lost, found_lost, rise, told_lost}
 use Rattle.ddf_uncut_group.proofs.LostSteps.{readied_lost}
 use Rattle.ddf_uncut_group.proofs.SettledWritten.{floors_behind, held_behind, levelled_floored}
-use Rattle.ddf_recovery.proofs.LeftStep.{from_kept}
 use Rattle.ddf_uncut_group.proofs.UnpluggedTold.{told_without}
 
 -- ---- newest copies without one
@@ -53,9 +52,9 @@ module _ (group : GroupValue) (told : IsToldByAll group) (place : ℕ) (seat : S
   floors_left : (sizes : List ℕ) (image : Image) → AllByRecursion (λ (one : Seat). HasFloor (slice_index sizes one.slot) (image one.slot) one.floor) group.seats
       → AllByRecursion (λ (one : Seat). HasFloor (slice_index sizes one.slot) (image one.slot) one.floor) without.seats
   floors_left sizes image have =
-      all_by_get (λ (one : Seat). HasFloor (slice_index sizes one.slot) (image one.slot) one.floor) without.seats
+      all_from (λ (one : Seat). HasFloor (slice_index sizes one.slot) (image one.slot) one.floor) without.seats
       (λ k one at.
-      let was = from_kept (λ (other : Seat). not (eqb other.slot seat.slot)) group.seats k one at in
+      let was = filter_get (λ (other : Seat). not (eqb other.slot seat.slot)) group.seats k one at in
       all_at (λ (other : Seat). HasFloor (slice_index sizes other.slot) (image other.slot) other.floor) group.seats was.0 one have was.1)
 
   -- Once the loss was written the disks that are left are the group behind it.
@@ -78,9 +77,6 @@ module _ (group : GroupValue) (told : IsToldByAll group) (place : ℕ) (seat : S
       }
 
 -- ---- what was readied
-
-abbrev Answer : Type 0
-Answer = Result (List Step) GroupFault
 
 -- What was readied behind a step.
 pub record IsLossFirst (timestamp : ℕ) (without : GroupValue) (changes : List Change) (steps : List Step) : Type 0 where

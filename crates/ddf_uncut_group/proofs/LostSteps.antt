@@ -1,6 +1,7 @@
 -- The steps of changes of a group of which members are absent: their loss, and then those of the group behind it.
-use Rattle.std.proofs.Common.{◌≡◌, ℕ, ◌<◌, ◌^◌, Bool, true, false, List, map, Option, Some, None, Result, Err, ap, sym, ◌∙◌, if◌then◌else◌}
+use Rattle.std.proofs.Common.{◌≡◌, ℕ, ◌<◌, ◌^◌, Bool, true, false, List, map, Option, Some, None, Err, ap, sym, ◌∙◌, if◌then◌else◌}
 use Rattle.std.specs.List.{AllByRecursion}
+use Rattle.ddf_lemmas.proofs.Lists.{all_from}
 use Rattle.ddf_config.specs.declared.refusal.FullTable.{FullTable}
 use Rattle.ddf_config.specs.declared.refusal.Refusal.TheVariants.{Unsettled}
 use Rattle.ddf_config.specs.Configuration.{Configuration}
@@ -9,9 +10,8 @@ use Rattle.ddf_group.specs.Shown.{shown_of}
 use Rattle.ddf_view.specs.Reading.{are_noted}
 use Rattle.ddf_view.specs.Shows.{shows}
 use Rattle.ddf_view.specs.View.{view_of}
-use Rattle.ddf_rewrite.proofs.Lists.{all_at, all_by_get}
+use Rattle.ddf_rewrite.proofs.Lists.{all_at}
 use Rattle.ddf_copy.specs.Written.{CanBeCopy}
-use Rattle.ddf_seats.specs.declared.fault.GroupFault.{GroupFault}
 use Rattle.ddf_seats.specs.declared.fault.GroupFault.TheVariants.{Refused}
 use Rattle.ddf_seats.specs.declared.seated.Seated.{Seated}
 use Rattle.ddf_seats.specs.Group.{GroupValue}
@@ -25,23 +25,21 @@ use Rattle.ddf_steps.specs.Trying.{DoShow}
 use Rattle.ddf_seats.specs.Changing.{IsOfGroup}
 use Rattle.ddf_recovery.proofs.Recovered.{none_stray, settled_readied}
 use Rattle.ddf_assembly.proofs.SettledSeats.{same_group}
+use Rattle.ddf_recovery.proofs.ReadiedSteps.{Answer}
 use Rattle.ddf_uncut_group.specs.Without.{group_lost}
 use Rattle.ddf_uncut_group.proofs.LostGroup.{IsToldWithout, assembled, disks_lost, told_lost}
-
-abbrev Answer : Type 0
-Answer = Result (List Step) GroupFault
 
 module _ (group : GroupValue) (told : IsToldWithout group) (timestamp : ℕ) (changes : List Change) where
   of_group : AllByRecursion (IsOfGroup group.config) (seated group)
   of_group =
-      all_by_get (IsOfGroup group.config) (seated group)
+      all_from (IsOfGroup group.config) (seated group)
       (λ k disk at. record {
         is_copy = all_at (λ (one : Seated). CanBeCopy one.copy) (seated group) k disk (assembled group told timestamp).are_copies at;
         same_group = same_group group.config disk.copy (told.are_telling.each k disk at).is_shown;
       })
 
   do_show : DoShow group.config (seated group)
-  do_show = all_by_get (λ (disk : Seated). shows group.config (view_of disk.copy) ≡ true) (seated group) (λ k disk at. (told.are_telling.each k disk at).is_shown)
+  do_show = all_from (λ (disk : Seated). shows group.config (view_of disk.copy) ≡ true) (seated group) (λ k disk at. (told.are_telling.each k disk at).is_shown)
 
   -- No disk is one that recovery must not write over.
   pub not_stray : has_stray group ≡ false

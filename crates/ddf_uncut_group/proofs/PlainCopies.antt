@@ -6,6 +6,7 @@ use Rattle.std.proofs.lemmas.List.FromFn.{length-enumerate_from}
 use Rattle.std.specs.Prelude.{slice_index}
 use Rattle.std.specs.List.{AllByRecursion, enumerate_from, sum_by}
 use Rattle.std.specs.Option.{option_map_or}
+use Rattle.ddf_lemmas.proofs.Lists.{all_filter, all_replicate}
 use Rattle.ddf_bytes.specs.declared.stamp.Stamp.{Stamp}
 use Rattle.ddf_header.specs.declared.geometry.Geometry.{Geometry}
 use Rattle.ddf_header.specs.declared.kind.Revision.{Revision}
@@ -33,13 +34,11 @@ use Rattle.ddf_rewrite.specs.Copies.{changed_copy, changed_holdings, copy_after,
 use Rattle.ddf_rewrite.specs.Disks.{changed_disks, recovered_disks}
 use Rattle.ddf_rewrite.specs.Notes.{Holding, find_holding, notes_after}
 use Rattle.ddf_rewrite.specs.Placement.{is_others, item_at}
-use Rattle.ddf_rewrite.proofs.Lists.{all_replicate}
 use Rattle.ddf_seats.specs.declared.seated.Seated.{Seated}
 use Rattle.ddf_seats.specs.Group.{GroupValue, bad_count, floor_of, seat_of}
 use Rattle.ddf_recovery.specs.Recovery.{lost_step}
 use Rattle.ddf_seats.specs.Seated.{seated, levelled}
 use Rattle.ddf_steps.specs.Steps.{disks_after, rewritten, stays_in, step_of}
-use Rattle.ddf_seats.proofs.Lists.{filter_have}
 use Rattle.ddf_uncut_group.specs.Plain.{ArePlain, IsPlain}
 
 -- ---- new copies
@@ -167,7 +166,7 @@ module _ (sizes : List ℕ) where
   pub after_plain : (timestamp : ℕ) (leaders : Before) (config : Configuration) (disks : List Seated) → ArePlain sizes disks → ArePlain sizes (disks_after timestamp leaders config disks)
   unfolding disks_after
   after_plain timestamp leaders config disks are =
-      all_rewritten leaders config timestamp (filter (stays_in config) disks) (filter_have IsPlainDisk (stays_in config) disks are)
+      all_rewritten leaders config timestamp (filter (stays_in config) disks) (all_filter IsPlainDisk (stays_in config) disks are)
 
   -- So are those of a step.
   pub step_plain : (timestamp : ℕ) (config : Configuration) (disks : List Seated) (change : Change) → ArePlain sizes disks → ArePlain sizes (step_of timestamp config disks change).disks

@@ -6,6 +6,7 @@ use Rattle.std.proofs.lemmas.Option.{get_or_from_slice_get, slice_get-get_or, sl
 use Rattle.std.specs.Prelude.{IfSome, slice_get, slice_index}
 use Rattle.std.specs.List.{AllByRecursion, enumerate_from, range_with_len}
 use Rattle.std.specs.Option.{option_and_then}
+use Rattle.ddf_lemmas.proofs.Lists.{all_from, filter_all, mapped_at, range_get}
 use Rattle.ddf_bay.specs.Sectors.{Image}
 use Rattle.ddf_bytes.specs.declared.stamp.Stamp.{Stamp}
 use Rattle.ddf_header.specs.declared.kind.Revision.{Revision}
@@ -32,7 +33,7 @@ use Rattle.ddf_group.specs.Assembled.{assembled}
 use Rattle.ddf_group.specs.Shown.{shown_of}
 use Rattle.ddf_history.specs.Groups.{ShowsFully}
 use Rattle.ddf_view.specs.View.{view_of}
-use Rattle.ddf_rewrite.proofs.Lists.{all_by_get, all_mapped, enumerated_get, get_enumerated, get_map}
+use Rattle.ddf_rewrite.proofs.Lists.{all_mapped, enumerated_get, get_enumerated}
 use Rattle.ddf_seats.specs.declared.seated.Seated.{Seated}
 use Rattle.ddf_assembly.specs.Assembled.{IsAssembledGroup}
 use Rattle.ddf_steps.specs.Committed.{slots_of}
@@ -42,7 +43,6 @@ use Rattle.ddf_assembly.specs.Reading.{AreNewest}
 use Rattle.ddf_seats.specs.Seated.{seated, seated_at, seated_by}
 use Rattle.ddf_assembly.specs.Settled.{IsSettledGroup}
 use Rattle.ddf_assembly.proofs.Assembled.{answer_assembled}
-use Rattle.ddf_steps.proofs.CommittedLevels.{filter_all}
 use Rattle.ddf_steps.proofs.Rewritten.{closed_can}
 use Rattle.ddf_assembly.proofs.Settled.{settled}
 use Rattle.ddf_history_steps.specs.Floors.{HasFloor}
@@ -54,7 +54,6 @@ use Rattle.ddf_uncut_group.specs.Settled.{AreSettledAs, IsToldByAll, newest_held
 use Rattle.ddf_uncut_group.proofs.PlainCopies.{new_plain, plain_floor, written_plain}
 use Rattle.ddf_uncut_group.proofs.PlainLabelled.{labelled_found, labelled_shows, newest_there}
 use Rattle.ddf_uncut_group.proofs.PlainMade.{new_under}
-use Rattle.ddf_uncut_group.proofs.PlainRanges.{range_is}
 
 -- ---- a group that was found
 
@@ -108,7 +107,7 @@ module _ (revision : Revision) (stamp : Stamp) (size : ℕ) (more : List ℕ) wh
   all_disks : (P : Seated → Type 0) → ((k : ℕ) (disk : ℕ × ℕ) → slice_get (enumerate_from 0 sizes) k ≡ Some disk → P (disk_at disk)) → AllByRecursion P (seated group)
   all_disks P each =
       subst (λ (disks : List Seated). AllByRecursion P disks) (sym labelled_disks)
-      (all_mapped P disk_at (enumerate_from 0 sizes) (all_by_get (λ (disk : ℕ × ℕ). P (disk_at disk)) (enumerate_from 0 sizes) each))
+      (all_mapped P disk_at (enumerate_from 0 sizes) (all_from (λ (disk : ℕ × ℕ). P (disk_at disk)) (enumerate_from 0 sizes) each))
 
   -- Their copies are plain.
   pub labelled_plain : ArePlain sizes (seated group)
@@ -128,8 +127,8 @@ module _ (revision : Revision) (stamp : Stamp) (size : ℕ) (more : List ℕ) wh
       let low : slot < length sizes = omega (arith, long, within) in
       let here = get_enumerated 0 sizes slot (get_or sizes slot 0) (slice_get-get_or sizes slot 0 low) in
       let there : here.0 ≡ slot = let same = here.1 in omega (arith, same) in
-      let seat = get_map (labelled_seat stamp) (enumerate_from 0 sizes) slot (here.0, get_or sizes slot 0) here.2 in
-      let own = get_map (λ (one : Seat). one.slot) group.seats slot (labelled_seat stamp (here.0, get_or sizes slot 0)) seat in
+      let seat = mapped_at (labelled_seat stamp) (enumerate_from 0 sizes) slot (here.0, get_or sizes slot 0) here.2 in
+      let own = mapped_at (λ (one : Seat). one.slot) group.seats slot (labelled_seat stamp (here.0, get_or sizes slot 0)) seat in
       slot_is (slots_of group.seats) slot slot (own ∙ ap (λ (n : ℕ). Some n) there)
 
   module _ (few : length sizes ≤ 15) (large : (place : ℕ) → place < length sizes → 33000 ≤ get_or sizes place 0) (fit : (place : ℕ) → get_or sizes place 0 < 2 ^ 64) where
@@ -140,9 +139,9 @@ module _ (revision : Revision) (stamp : Stamp) (size : ℕ) (more : List ℕ) wh
     labelled_copies : AreNewest newest
     labelled_copies =
         all_mapped (λ one. IfSome one IsNewestCopy) (λ place. Some (Level (labelled_copy revision stamp sizes place))) (range_with_len 0 (length sizes))
-        (all_by_get (λ place. CanBeCopy (labelled_copy revision stamp sizes place)) (range_with_len 0 (length sizes))
+        (all_from (λ place. CanBeCopy (labelled_copy revision stamp sizes place)) (range_with_len 0 (length sizes))
         (λ k place at.
-        let there = range_is 0 (length sizes) k place at in
+        let there = range_get 0 (length sizes) k place at in
         let same = there.0 in
         let below = there.1 in
         copy_can place (omega (arith, same, below))))
@@ -213,7 +212,7 @@ module _ (revision : Revision) (stamp : Stamp) (size : ℕ) (more : List ℕ) wh
         are_held = held_from 0 (length sizes) (omega arith);
         is_told = labelled_told;
         have_floors = all_mapped (λ seat. HasFloor (slice_index sizes seat.slot) (image seat.slot) seat.floor) (labelled_seat stamp) (enumerate_from 0 sizes)
-            (all_by_get (λ (disk : ℕ × ℕ). HasFloor (slice_index sizes disk.0) (image disk.0) (disk.1 - 32849)) (enumerate_from 0 sizes)
+            (all_from (λ (disk : ℕ × ℕ). HasFloor (slice_index sizes disk.0) (image disk.0) (disk.1 - 32849)) (enumerate_from 0 sizes)
             (λ k disk at.
             let there = placed k disk at in
             let same = there.0 in

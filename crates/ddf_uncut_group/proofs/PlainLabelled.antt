@@ -8,6 +8,8 @@ use Rattle.std.specs.Prelude.{filter_map, option_map, slice_get, slice_index, un
 use Rattle.std.specs.List.{AllByRecursion, enumerate_from, list_any, range_with_len}
 use Rattle.std.specs.Option.{option_and_then, option_map_or}
 use Rattle.std.specs.Str.{bytes_eq}
+use Rattle.std.proofs.lemmas.Map.Keys.{any_passes_from_place}
+use Rattle.ddf_lemmas.proofs.Lists.{bytes_same, in_map, mapped_at, none_kept, range_at, range_get}
 use Rattle.ddf_bytes.specs.Choices.{when}
 use Rattle.ddf_bytes.specs.declared.stamp.Stamp.{Stamp}
 use Rattle.ddf_header.specs.declared.kind.Revision.{Revision}
@@ -25,7 +27,6 @@ use Rattle.ddf_update.specs.NewCopies.{disk_guid, entries_from, group_of as name
 use Rattle.ddf_view.specs.Differ.{difference}
 use Rattle.ddf_view.specs.Reading.{member_entry_in, read, spare_in}
 use Rattle.ddf_view.specs.View.{View, disk_of, lists_current, lists_itself, view_of}
-use Rattle.ddf_view.proofs.Tests.{bytes_same}
 use Rattle.ddf_group.specs.declared.answer.Assembly.{Assembly}
 use Rattle.ddf_group.specs.declared.answer.Assembly.TheVariants.{NoGroup}
 use Rattle.ddf_group.specs.declared.answer.Differ.TheVariants as differs
@@ -36,7 +37,7 @@ use Rattle.ddf_group.specs.Choice.{chosen, is_shown}
 use Rattle.ddf_group.specs.Conflicts.{concerned, contradiction, in_conflict, is_concerned, lists_missing_in, same_reference, sequence_of, twin_of, twins}
 use Rattle.ddf_group.specs.Shown.{shown_of}
 use Rattle.ddf_group.specs.Slots.{claimed, claims, claims_by, leaders, leads, numbers, reference_at, sequence_in, shows_group, slot_at, view_in}
-use Rattle.ddf_rewrite.proofs.Lists.{get_map, map_get, enumerated_get}
+use Rattle.ddf_rewrite.proofs.Lists.{enumerated_get}
 use Rattle.ddf_history.specs.Groups.{ShowsFully}
 use Rattle.ddf_seats.specs.Group.{GroupValue, seat_at, seat_of, seats_of}
 use Rattle.ddf_assembly.specs.Group.{group_as, group_of, group_or_fault}
@@ -52,7 +53,7 @@ use Rattle.ddf_history_steps.proofs.FoundingRows.{new_disk_list, new_lists, new_
 use Rattle.ddf_history_steps.proofs.FoundingViews.{plain_agree, plain_view}
 use Rattle.ddf_uncut_group.specs.Labelled.{labelled_config, labelled_copy, labelled_group, labelled_member, labelled_newest, labelled_seat}
 use Rattle.ddf_uncut_group.proofs.PlainCopies.{new_plain, plain_seat, written_plain}
-use Rattle.ddf_uncut_group.proofs.PlainRanges.{any_at, made_all, made_placed, none_kept, none_past, range_is, range_rises, range_there, range_within, rising_none}
+use Rattle.ddf_uncut_group.proofs.PlainRanges.{made_all, made_placed, none_past, range_rises, range_within, rising_none}
 
 -- ---- the configuration
 
@@ -126,7 +127,7 @@ module _ (revision : Revision) (stamp : Stamp) (size : ℕ) (more : List ℕ) wh
 
   -- The newest copy of a slot is the one that it got.
   pub newest_there : (place : ℕ) → place < count → slice_get newest place ≡ Some (Some (newests.Level (labelled_copy revision stamp sizes place)))
-  newest_there place low = get_map (λ place. Some (newests.Level (labelled_copy revision stamp sizes place))) places place place (range_there count place low)
+  newest_there place low = mapped_at (λ place. Some (newests.Level (labelled_copy revision stamp sizes place))) places place place (range_at count place low)
 
   newest_long : length newest ≡ count
   newest_long = length-map-range_with_len (λ place. Some (newests.Level (labelled_copy revision stamp sizes place))) 0 count
@@ -150,7 +151,7 @@ module _ (revision : Revision) (stamp : Stamp) (size : ℕ) (more : List ℕ) wh
   -- A written slot is one of the bay, and shows its view.
   written_is : (slot : ℕ) (one : View) → IsWritten slots places slot one → (slot < count) × (one ≡ view slot)
   written_is slot one is =
-      let placed = range_is 0 count is.place slot is.at in
+      let placed = range_get 0 count is.place slot is.at in
       let same = placed.0 in
       let below = placed.1 in
       let low : slot < count = omega (arith, same, below) in
@@ -206,7 +207,7 @@ module _ (revision : Revision) (stamp : Stamp) (size : ℕ) (more : List ℕ) wh
     rise = range_rises 0 count;
     within = subst (λ (end : ℕ). AllByRecursion (λ slot. slot < end) places) (zero-add count ∙ sym slots_long) (range_within 0 count);
     views = λ place slot at.
-        let placed = range_is 0 count place slot at in
+        let placed = range_get 0 count place slot at in
         let same = placed.0 in
         let below = placed.1 in
         (view slot, shown_here slot (omega (arith, same, below)));
@@ -230,7 +231,7 @@ module _ (revision : Revision) (stamp : Stamp) (size : ℕ) (more : List ℕ) wh
         ∙ ap (difference (view i)) (written_is j other its).1
         ∙ plain_agree group (disk_guid stamp i) (disk_guid stamp j) (new_reference stamp i) (new_reference stamp j) (new_disk_list Small revision stamp sizes);
     were_concerned = λ place slot at.
-        let placed = range_is 0 count place slot at in
+        let placed = range_get 0 count place slot at in
         let same = placed.0 in
         let below = placed.1 in
         let low : slot < count = omega (arith, same, below) in
@@ -265,7 +266,7 @@ module _ (revision : Revision) (stamp : Stamp) (size : ℕ) (more : List ℕ) wh
       ap (λ (all : List ℕ). filter_map (λ slot. view_in (slot_at slots slot)) all) leaders_all
       ∙ made_all (λ slot. view_in (slot_at slots slot)) view places
       (λ k slot at.
-      let placed = range_is 0 count k slot at in
+      let placed = range_get 0 count k slot at in
       let same = placed.0 in
       let below = placed.1 in
       ap view_in (shown_here slot (omega (arith, same, below))))
@@ -285,14 +286,14 @@ module _ (revision : Revision) (stamp : Stamp) (size : ℕ) (more : List ℕ) wh
     where
       fails : (k : ℕ) (member : ℕ × Member) → slice_get (map (labelled_member stamp) (enumerate_from 0 sizes)) k ≡ Some member → is_absent slots places member ≡ false
       fails k member at =
-          let of = map_get (labelled_member stamp) (enumerate_from 0 sizes) k member at in
+          let of = in_map (labelled_member stamp) (enumerate_from 0 sizes) k member at in
           let disk = enumerated_get 0 sizes k of.0 of.1 in
           let low = slice_get_within sizes k of.0.1 disk.1 in
           let place : of.0.0 ≡ k = let there = disk.0 in omega (arith, there) in
           let reference : new_reference stamp k ≡ member.0 = ap (new_reference stamp) (sym place) ∙ ap (λ (one : ℕ × Member). one.0) of.2 in
           let here : has_reference slots member.0 k ≡ true =
           ap (λ (found : Option ℕ). option_map_or (λ one. one == member.0) found false) (reference_here k low) ∙ eq-eqb (new_reference stamp k) member.0 reference in
-          let seated : list_any (has_reference slots member.0) places ≡ true = any_at (has_reference slots member.0) places k k (range_there count k low) here in
+          let seated : list_any (has_reference slots member.0) places ≡ true = any_passes_from_place (has_reference slots member.0) places k k (range_at count k low) here in
           let there : member.1.missing ≡ false = ap (λ (one : ℕ × Member). one.1.missing) (sym of.2) in
           ap (λ (missing : Bool). not missing && not (list_any (has_reference slots member.0) places)) there ∙ ap not seated
 
@@ -301,7 +302,7 @@ module _ (revision : Revision) (stamp : Stamp) (size : ℕ) (more : List ℕ) wh
   none_lags =
       none_kept (λ slot. not (has_config (labelled_config stamp sizes) (slot_at slots slot))) places
       (λ k slot at.
-      let placed = range_is 0 count k slot at in
+      let placed = range_get 0 count k slot at in
       let same = placed.0 in
       let below = placed.1 in
       let low : slot < count = omega (arith, same, below) in
@@ -327,7 +328,7 @@ module _ (revision : Revision) (stamp : Stamp) (size : ℕ) (more : List ℕ) wh
   -- The group is shown.
   shown_by_one : is_shown slots group ≡ true
   shown_by_one =
-      any_at (λ slot. shows_group group (slot_at slots slot)) (numbers slots) 0 0 (range_there (length slots) 0 (let long = slots_long in omega (arith, long)))
+      any_passes_from_place (λ slot. shows_group group (slot_at slots slot)) (numbers slots) 0 0 (range_at (length slots) 0 (let long = slots_long in omega (arith, long)))
       (ap (shows_group group) (shown_here 0 (omega arith)) ∙ view_shown 0 (omega arith))
 
   made_group : Configuration → List Seat → (absent lagging : List ℕ) → GroupValue

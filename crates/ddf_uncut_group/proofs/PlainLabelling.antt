@@ -1,11 +1,14 @@
 -- What `label` leaves of a bay whose slots it labels all, and that nothing refuses it on disks of zeros.
-use Rattle.std.proofs.Common.{◌≡◌, ℕ, zero, suc, ◌+◌, ◌<◌, ◌≤◌, ◌^◌, ◌==◌, Bool, true, false, not, nat_lt, List, [], ◌∷◌, length, get_or, map, replicate, Option, Some, None, Result, refl, ap, sym, ◌∙◌, subst, arith}
+use Rattle.std.proofs.Common.{◌≡◌, ℕ, zero, suc, ◌+◌, ◌<◌, ◌≤◌, ◌^◌, ◌==◌, Bool, false, not, nat_lt, List, [], ◌∷◌, length, get_or, map, replicate, Option, Some, None, Result, refl, ap, sym, ◌∙◌, subst, arith}
 use Rattle.std.proofs.lemmas.Bool.{le-ltb, ltb-false, ne_eqb}
 use Rattle.std.proofs.lemmas.Option.{get_or_from_slice_get, slice_get_within}
-use Rattle.std.specs.Prelude.{filter, find, option_map, slice_get, slice_index}
+use Rattle.std.specs.Prelude.{find, option_map, slice_get, slice_index}
 use Rattle.std.specs.List.{AllByRecursion, range_with_len}
+use Rattle.std.proofs.lemmas.List.FromFn.{length-range_with_len}
+use Rattle.ddf_lemmas.proofs.Lists.{all_from, none_found, placed_all, range_at, range_get}
+use Rattle.ddf_lemmas.proofs.Options.{none_from_map}
 use Rattle.ddf_bytes.specs.Choices.{first_of, when}
-use Rattle.ddf_bytes.proofs.Nones.{none_first, none_map, none_when}
+use Rattle.ddf_bytes.proofs.Nones.{none_first, none_when}
 use Rattle.ddf_bay.specs.Logged.{held_of}
 use Rattle.ddf_bay.specs.Memory.{MemoryState, blank, disks_of, state_of}
 use Rattle.ddf_bay.specs.Sectors.{Image}
@@ -24,34 +27,14 @@ use Rattle.ddf_update.specs.declared.new_layout.NewLayout.TheVariants as layouts
 use Rattle.ddf_update.specs.NewCopies.{new_copy}
 use Rattle.ddf_update.specs.Update.{AreBoth}
 use Rattle.ddf_disk_commands.specs.Label.{label_copy, label_slots}
-use Rattle.ddf_disk_commands.specs.LabelRefusal.{chosen, is_anchored, is_blank, is_chosen, is_small, label_layout, label_refusal, missing, unfit}
-use Rattle.ddf_rewrite.proofs.Lists.{all_by_get}
+use Rattle.ddf_disk_commands.specs.LabelRefusal.{chosen, is_anchored, is_blank, is_small, label_layout, label_refusal, missing, unfit}
+use Rattle.ddf_disk_commands.proofs.Common.{all_chosen}
 use Rattle.ddf_uncut_group.specs.Labelled.{labelled_group}
 use Rattle.ddf_uncut_group.specs.Settled.{AreSettledAs}
 use Rattle.ddf_uncut_group.proofs.PlainBlank.{held_blank}
 use Rattle.ddf_uncut_group.proofs.PlainLabel.{labelled_as}
-use Rattle.ddf_uncut_group.proofs.PlainRanges.{range_is, range_there}
 
 -- ---- all slots
-
--- Without names every slot is chosen.
-all_chosen : (first count : ℕ) → filter (is_chosen []) (range_with_len first count) ≡ range_with_len first count
-all_chosen first zero = refl
-all_chosen first (suc count) = ap (λ slots. first ∷ slots) (all_chosen (first + 1) count)
-
-range_long : (first count : ℕ) → length (range_with_len first count) ≡ count
-range_long first zero = refl
-range_long first (suc count) = ap suc (range_long (first + 1) count)
-
--- What is at each place of a list is the list.
-placed_all : {X : Type 0} (f : ℕ → X) (first : ℕ) (xs : List X) → ((k : ℕ) (x : X) → slice_get xs k ≡ Some x → f (first + k) ≡ x) → map f (range_with_len first (length xs)) ≡ xs
-placed_all f first [] each = refl
-placed_all {X} f first (x ∷ xs) each =
-    let here : first + 0 ≡ first = omega arith in
-    let made : f first ≡ x = subst (λ (n : ℕ). f n ≡ x) here (each 0 x refl) in
-    ap (λ (y : X). y ∷ map f (range_with_len (first + 1) (length xs))) made
-    ∙ ap (λ (rest : List X). x ∷ rest)
-    (placed_all f (first + 1) xs (λ k y at. let there : first + suc k ≡ first + 1 + k = omega arith in subst (λ (n : ℕ). f n ≡ y) there (each (suc k) y at)))
 
 -- The slots are all slots, and their sizes those of the bay.
 slots_all : (sizes : List ℕ) → label_slots sizes [] ≡ range_with_len 0 (length sizes)
@@ -64,7 +47,7 @@ sizes_all sizes =
     (λ k size at. let here : 0 + k ≡ k = omega arith in ap (slice_index sizes) here ∙ get_or_from_slice_get sizes k size 0 at)
 
 counted : (sizes : List ℕ) → length (label_slots sizes []) ≡ length sizes
-counted sizes = ap length (slots_all sizes) ∙ range_long 0 (length sizes)
+counted sizes = ap length (slots_all sizes) ∙ length-range_with_len 0 (length sizes)
 
 -- Few disks are those of a small group.
 small_layout : (sizes : List ℕ) → length sizes ≤ 15 → label_layout false sizes [] ≡ layouts.Small
@@ -74,17 +57,6 @@ small_layout sizes few =
     rw many refl
 
 -- ---- what isn't refused
-
--- Where a test finds none, each fails it.
-none_found : {X : Type 0} (test : X → Bool) (xs : List X) → find test xs ≡ None → (k : ℕ) (x : X) → slice_get xs k ≡ Some x → test x ≡ false
-none_found test [] none k x at = absurd cc
-none_found {X} test (y ∷ ys) none k x at = by (test y) refl none k at (none_found test ys)
-  where
-    by : (passes : Bool) → test y ≡ passes → find test (y ∷ ys) ≡ None → (k : ℕ) → slice_get (y ∷ ys) k ≡ Some x
-        → (find test ys ≡ None → (k : ℕ) (x : X) → slice_get ys k ≡ Some x → test x ≡ false) → test x ≡ false
-    by true is none k at later = let found : ◌≡◌ {A = Option X} (Some y) None = sym (rw is refl) ∙ none in absurd cc
-    by false is none zero at later = let same : y ≡ x = cc in ap test (sym same) ∙ is
-    by false is none (suc k) at later = later (rw is at none) k x at
 
 -- A bay of few slots on which `label` of all of them isn't refused has slots, and these are large.
 pub record AreFit (sizes : List ℕ) : Type 0 where
@@ -98,17 +70,17 @@ fit_unrefused sizes held few none =
     let slots = chosen (length sizes) [] in
     let all = slots_all sizes in
     let parts = none_first (option_map NoSlot (missing (length sizes) []) ∷ unfit (label_layout false sizes []) sizes held slots ∷ []) none in
-    let there = none_when (length sizes == 0) 0 (none_map NoSlot (missing (length sizes) []) parts.0) in
+    let there = none_when (length sizes == 0) 0 (none_from_map NoSlot (missing (length sizes) []) parts.0) in
     let fits : unfit layouts.Small sizes held slots ≡ None = subst (λ (layout : NewLayout). unfit layout sizes held slots ≡ None) (small_layout sizes few) parts.1.0 in
     let own = none_first (option_map NotBlank (find (is_anchored sizes held) slots)
     ∷ option_map (λ slot. Small 33000 (slice_index sizes slot)) (find (is_small layouts.Small sizes) slots)
     ∷ when (nat_lt 15 (length slots)) (Full Disks)
     ∷ []) fits in
-    let large = none_found (is_small layouts.Small sizes) slots (none_map (λ slot. Small 33000 (slice_index sizes slot)) (find (is_small layouts.Small sizes) slots) own.1.0) in
+    let large = none_found (is_small layouts.Small sizes) slots (none_from_map (λ slot. Small 33000 (slice_index sizes slot)) (find (is_small layouts.Small sizes) slots) own.1.0) in
     record {
       some = some_by (length sizes) there;
       few = few;
-      large = λ place low. ltb-false (slice_index sizes place) 33000 (large place place (ap (λ (every : List ℕ). slice_get every place) all ∙ range_there (length sizes) place low));
+      large = λ place low. ltb-false (slice_index sizes place) 33000 (large place place (ap (λ (every : List ℕ). slice_get every place) all ∙ range_at (length sizes) place low));
     }
   where
     some_by : (count : ℕ) → (count == 0) ≡ false → 0 < count
@@ -138,7 +110,7 @@ labelled_settles revision stamp old new few none fit first =
     (λ place low.
     let slots = label_slots old.sizes [] in
     let all = slots_all old.sizes in
-    let at : slice_get slots place ≡ Some place = ap (λ (every : List ℕ). slice_get every place) all ∙ range_there (length old.sizes) place low in
+    let at : slice_get slots place ≡ Some place = ap (λ (every : List ℕ). slice_get every place) all ∙ range_at (length old.sizes) place low in
     let within : place < length slots = slice_get_within slots place place at in
     let placed = subst (λ (layout : NewLayout). AreBoth (slice_index old.sizes place) (new.held place)
     (anchor_header (new_copy layout revision stamp (slot_sizes old.sizes slots) place)) (new_copy layout revision stamp (slot_sizes old.sizes slots) place)) (small_layout old.sizes few)
@@ -173,8 +145,8 @@ zeros_unrefused sizes are =
     let same = counted sizes in
     let large : AllByRecursion (λ slot. 33000 ≤ slice_index sizes slot) slots =
     subst (AllByRecursion (λ slot. 33000 ≤ slice_index sizes slot)) (sym all)
-    (all_by_get (λ slot. 33000 ≤ slice_index sizes slot) (range_with_len 0 (length sizes))
-    (λ k slot at. let placed = range_is 0 (length sizes) k slot at in let here = placed.0 in let below = placed.1 in are.large slot (omega (arith, here, below)))) in
+    (all_from (λ slot. 33000 ≤ slice_index sizes slot) (range_with_len 0 (length sizes))
+    (λ k slot at. let placed = range_get 0 (length sizes) k slot at in let here = placed.0 in let below = placed.1 in are.large slot (omega (arith, here, below)))) in
     let there : (length sizes == 0) ≡ false = ne_eqb (length sizes) 0 (λ (none : length sizes ≡ 0). absurd (omega (arith, none, some))) in
     let many : nat_lt 15 (length slots) ≡ false = le-ltb 15 (length slots) (omega (arith, few, same)) in
     subst (λ (layout : NewLayout). first_of (option_map NoSlot (missing (length sizes) []) ∷ unfit layout sizes (held_of []) slots ∷ []) ≡ None) (sym (small_layout sizes few))

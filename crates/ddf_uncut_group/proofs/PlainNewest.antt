@@ -3,6 +3,8 @@ use Rattle.std.proofs.Common.{◌≡◌, ◌⊎◌, ℕ, zero, suc, List, [], �
 use Rattle.std.specs.Prelude.{filter_map, option_map, slice_get, slice_index, slice_set}
 use Rattle.std.specs.List.{AllByRecursion, cons_option, range_with_len}
 use Rattle.std.specs.Option.{option_and_then}
+use Rattle.std.proofs.lemmas.Option.{same_Some}
+use Rattle.ddf_lemmas.proofs.Lists.{in_map, range_get}
 use Rattle.ddf_bytes.specs.declared.stamp.Stamp.{Stamp}
 use Rattle.ddf_header.specs.declared.kind.Revision.{Revision}
 use Rattle.ddf_config.specs.declared.seat.Seat.{Seat}
@@ -16,7 +18,6 @@ use Rattle.ddf_update.specs.declared.prepared.Mode.TheVariants as modes
 use Rattle.ddf_update.specs.declared.new_layout.NewLayout.TheVariants.{Small}
 use Rattle.ddf_update.specs.NewCopies.{new_copy}
 use Rattle.ddf_plan.specs.declared.change.Change.{Change}
-use Rattle.ddf_rewrite.proofs.Lists.{map_get}
 use Rattle.ddf_seats.specs.declared.seated.Seated.{Seated}
 use Rattle.ddf_seats.specs.Group.{GroupValue}
 use Rattle.ddf_steps.specs.Ready.{group_after}
@@ -27,7 +28,6 @@ use Rattle.ddf_uncut_group.specs.Labelled.{labelled_copy, labelled_newest}
 use Rattle.ddf_uncut_group.specs.Plain.{ArePlain, HavePlain, IsPlain}
 use Rattle.ddf_uncut_group.proofs.PlainCopies.{new_plain, written_plain}
 use Rattle.ddf_uncut_group.proofs.PlainSteps.{readied_plain}
-use Rattle.ddf_uncut_group.proofs.PlainRanges.{range_is}
 
 -- ---- lists
 
@@ -51,16 +51,6 @@ made_have {Y = Y} P f each (x ∷ xs) = by (f x) (each x) (made_have P f each xs
     by None has rest = rest
     by (Some y) has rest = (has y refl, rest)
 
--- Two that are there are the same.
-same_some : (one other : Newest) → ◌≡◌ {A = Option Newest} (Some one) (Some other) → one ≡ other
-same_some one other same = cc
-
-same_copy : (one other : DiskCopy) → ◌≡◌ {A = Option DiskCopy} (Some one) (Some other) → one ≡ other
-same_copy one other same = cc
-
-same_disk : (one other : Seated) → ◌≡◌ {A = Option Seated} (Some one) (Some other) → one ≡ other
-same_disk one other same = cc
-
 -- ---- the newest copies
 
 module _ (sizes : List ℕ) where
@@ -69,8 +59,8 @@ module _ (sizes : List ℕ) where
   one_more newest disk have is = λ slot one copy at stands. elim (set_get newest disk.seat.slot (Some (Level disk.copy)) slot (Some one) at) [
     | inl there ↦ have slot one copy there stands
     | inr here ↦
-        let level : Level disk.copy ≡ one = same_some (Level disk.copy) one here.1 in
-        let own : disk.copy ≡ copy = same_copy disk.copy copy (ap standing_copy level ∙ stands) in
+        let level : Level disk.copy ≡ one = same_Some (Level disk.copy) one here.1 in
+        let own : disk.copy ≡ copy = same_Some disk.copy copy (ap standing_copy level ∙ stands) in
         subst (λ (n : ℕ). IsPlain (slice_index sizes n) copy) (sym here.0) (subst (IsPlain (slice_index sizes disk.seat.slot)) own is)
   ]
 
@@ -104,7 +94,7 @@ module _ (sizes : List ℕ) where
       standing seat one None stands at disk is = absurd cc
       standing seat one (Some copy) stands at disk is =
           let made : Seated = record { seat = seat; copy = copy; last = last_of one; mode = modes.Change } in
-          let same : made ≡ disk = same_disk made disk is in
+          let same : made ≡ disk = same_Some made disk is in
           subst (λ (one : Seated). IsPlain (slice_index sizes one.seat.slot) one.copy) same (have seat.slot one copy at stands)
 
       by : (seat : Seat) (found : Option (Option Newest)) → slice_get group.newest seat.slot ≡ found → (disk : Seated) → option_and_then (λ one. option_and_then (seated_by seat) one) found ≡ Some disk
@@ -124,11 +114,11 @@ module _ (sizes : List ℕ) where
 -- Those of disks that were just labelled are plain.
 pub newest_labelled : (revision : Revision) (stamp : Stamp) (sizes : List ℕ) → HavePlain sizes (labelled_newest revision stamp sizes)
 newest_labelled revision stamp sizes = λ slot one copy at stands.
-    let of = map_get (λ place. Some (Level (labelled_copy revision stamp sizes place))) (range_with_len 0 (length sizes)) slot (Some one) at in
-    let placed = range_is 0 (length sizes) slot of.0 of.1 in
+    let of = in_map (λ place. Some (Level (labelled_copy revision stamp sizes place))) (range_with_len 0 (length sizes)) slot (Some one) at in
+    let placed = range_get 0 (length sizes) slot of.0 of.1 in
     let place : of.0 ≡ slot = let same = placed.0 in omega (arith, same) in
-    let level : Level (labelled_copy revision stamp sizes of.0) ≡ one = same_some (Level (labelled_copy revision stamp sizes of.0)) one of.2 in
-    let own : labelled_copy revision stamp sizes of.0 ≡ copy = same_copy (labelled_copy revision stamp sizes of.0) copy (ap standing_copy level ∙ stands) in
+    let level : Level (labelled_copy revision stamp sizes of.0) ≡ one = same_Some (Level (labelled_copy revision stamp sizes of.0)) one of.2 in
+    let own : labelled_copy revision stamp sizes of.0 ≡ copy = same_Some (labelled_copy revision stamp sizes of.0) copy (ap standing_copy level ∙ stands) in
     subst (IsPlain (slice_index sizes slot)) own
     (subst (λ (n : ℕ). IsPlain (slice_index sizes n) (labelled_copy revision stamp sizes of.0)) place
     (written_plain (slice_index sizes of.0) (new_copy Small revision stamp sizes of.0) Primary (new_plain revision stamp sizes of.0)))

@@ -1,29 +1,16 @@
 -- Numbers from one on, and lists that go with them.
-use Rattle.std.proofs.Common.{◌≡◌, ℕ, zero, suc, ◌+◌, ◌<◌, ◌≤◌, Bool, true, false, ◌||◌, List, [], ◌∷◌, length, map, Option, Some, None, refl, ap, ◌∙◌, subst, inl, inr, arith}
+use Rattle.std.proofs.Common.{◌≡◌, ℕ, zero, suc, ◌+◌, ◌<◌, ◌≤◌, List, [], ◌∷◌, length, map, Option, Some, None, refl, ap, ◌∙◌, subst, inl, inr, arith}
 use Rattle.std.proofs.lemmas.Bool.{cases_lt}
-use Rattle.std.specs.Prelude.{filter, filter_map, slice_get}
-use Rattle.std.specs.List.{AllByRecursion, cons_option, enumerate_from, list_any, range_with_len}
+use Rattle.std.specs.Prelude.{filter_map, slice_get}
+use Rattle.std.specs.List.{AllByRecursion, cons_option, enumerate_from, range_with_len}
 use Rattle.std.specs.Option.{option_or}
-use Rattle.ddf_view.proofs.Finds.{when_false}
+use Rattle.ddf_lemmas.proofs.Lists.{range_at}
 use Rattle.ddf_group.specs.Pairs.{first_pair, first_with}
 use Rattle.ddf_recovery.proofs.LeftLists.{IsNoneOf, with_none}
 use Rattle.ddf_assembly.proofs.SettledSeats.{Rise}
-use Rattle.ddf_rewrite.proofs.Lists.{all_at, get_range}
+use Rattle.ddf_rewrite.proofs.Lists.{all_at}
 
 -- ---- numbers
-
--- A number is where it is.
-pub range_is : (first count k n : ℕ) → slice_get (range_with_len first count) k ≡ Some n → (n ≡ first + k) × (k < count)
-range_is first zero k n at = absurd cc
-range_is first (suc count) zero n at = let same : first ≡ n = cc in (omega (arith, same), omega arith)
-range_is first (suc count) (suc k) n at = let rest = range_is (first + 1) count k n at in let place = rest.0 in let low = rest.1 in (omega (arith, place), omega (arith, low))
-
--- The number at a place from 0 on is the place.
-pub range_there : (count k : ℕ) → k < count → slice_get (range_with_len 0 count) k ≡ Some k
-range_there count k low =
-    let there = get_range 0 count k low in
-    let place : there.0 ≡ k = there.1 ∙ omega arith in
-    there.2 ∙ ap (λ (n : ℕ). Some n) place
 
 -- What is below the first is below all.
 below_range : (low first count : ℕ) → low < first → AllByRecursion (λ n. low < n) (range_with_len first count)
@@ -46,7 +33,7 @@ range_within first (suc count) = (
 -- What is none of those from 0 on is past them.
 pub none_past : (count n : ℕ) → IsNoneOf (range_with_len 0 count) n → count ≤ n
 none_past count n none = elim (cases_lt n count) [
-  | inl low ↦ absurd (all_at (λ (x : ℕ). n ≡ x → ⊥) (range_with_len 0 count) n n none (range_there count n low) refl)
+  | inl low ↦ absurd (all_at (λ (x : ℕ). n ≡ x → ⊥) (range_with_len 0 count) n n none (range_at count n low) refl)
   | inr past ↦ past
 ]
 
@@ -83,18 +70,3 @@ made_placed {X} {Y} f h first (x ∷ xs) each =
     ∙ ap (λ (rest : List Y). h (first, x) ∷ rest)
     (made_placed f h (first + 1) xs
     (λ k y at. let there : first + suc k ≡ first + 1 + k = omega arith in subst (λ (n : ℕ). f n ≡ Some (h (n, y))) there (each (suc k) y at)))
-
--- Where each item fails a test, none is kept.
-pub none_kept : {X : Type 0} (test : X → Bool) (xs : List X) → ((k : ℕ) (x : X) → slice_get xs k ≡ Some x → test x ≡ false) → filter test xs ≡ []
-none_kept test [] fails = refl
-none_kept test (x ∷ xs) fails = when_false (test x) (x ∷ filter test xs) (filter test xs) (fails 0 x refl) ∙ none_kept test xs (λ k. fails (suc k))
-
--- Some item passes a test that one of the list passes.
-pub any_at : {X : Type 0} (p : X → Bool) (xs : List X) (k : ℕ) (x : X) → slice_get xs k ≡ Some x → p x ≡ true → list_any p xs ≡ true
-any_at p [] k x at passes = absurd cc
-any_at p (y ∷ ys) zero x at passes = let same : y ≡ x = cc in ap (λ b. b || list_any p ys) (ap p same ∙ passes)
-any_at p (y ∷ ys) (suc k) x at passes = ap (λ b. p y || b) (any_at p ys k x at passes) ∙ or_yes (p y)
-  where
-    or_yes : (b : Bool) → (b || true) ≡ true
-    or_yes true = refl
-    or_yes false = refl

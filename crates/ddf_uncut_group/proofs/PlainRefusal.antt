@@ -4,6 +4,7 @@ use Rattle.std.proofs.lemmas.List.{length-map}
 use Rattle.std.proofs.lemmas.List.FromFn.{length-enumerate_from}
 use Rattle.std.specs.Prelude.{option_map, slice_index}
 use Rattle.std.specs.List.{enumerate_from}
+use Rattle.ddf_lemmas.proofs.Lists.{all_from}
 use Rattle.ddf_bytes.specs.declared.stamp.Stamp.{Stamp}
 use Rattle.ddf_header.specs.declared.geometry.Geometry.{Geometry}
 use Rattle.ddf_config.specs.declared.member.Member.{Member}
@@ -19,7 +20,7 @@ use Rattle.ddf_plan.specs.Same.{is_step}
 use Rattle.ddf_rewrite.specs.Before.{before}
 use Rattle.ddf_rewrite.specs.Spares.{arrays_of_spare}
 use Rattle.ddf_rewrite.specs.Wanted.{all_wanted}
-use Rattle.ddf_rewrite.proofs.Lists.{all_by_get, all_mapped}
+use Rattle.ddf_rewrite.proofs.Lists.{all_mapped}
 use Rattle.ddf_seats.specs.declared.seated.Seated.{Seated}
 use Rattle.ddf_steps.specs.Full.{full_of}
 use Rattle.ddf_seats.specs.Group.{GroupValue}
@@ -85,5 +86,5 @@ labelled_room stamp sizes few =
       arrays = omega arith;
       elements = omega arith;
       none_dedicated = all_mapped (λ (entry : ℕ × Member). arrays_of_spare entry.1.spare ≡ []) (labelled_member stamp) (enumerate_from 0 sizes)
-          (all_by_get (λ (disk : ℕ × ℕ). arrays_of_spare (labelled_member stamp disk).1.spare ≡ []) (enumerate_from 0 sizes) (λ k disk at. refl));
+          (all_from (λ (disk : ℕ × ℕ). arrays_of_spare (labelled_member stamp disk).1.spare ≡ []) (enumerate_from 0 sizes) (λ k disk at. refl));
     }

@@ -3,6 +3,7 @@ use Rattle.std.proofs.Common.{◌≡◌, ◌∙◌, ℕ, suc, ◌+◌, ◌*◌, 
 use Rattle.std.proofs.lemmas.List.{length-map}
 use Rattle.std.specs.Prelude.{filter_map, slice_index}
 use Rattle.std.specs.List.{AllByRecursion, cons_option, sum_by}
+use Rattle.ddf_lemmas.proofs.Lists.{all_filter}
 use Rattle.ddf_config.specs.Configuration.{Configuration}
 use Rattle.ddf_copy.specs.Runs.{parts_of}
 use Rattle.ddf_copy.specs.declared.which.Which.TheVariants.{Primary}
@@ -18,7 +19,6 @@ use Rattle.ddf_seats.specs.Leading.{lags, leading}
 use Rattle.ddf_recovery.specs.Recovery.{mended, mended_copy, mended_or_kept, mending_step}
 use Rattle.ddf_seats.specs.Seated.{seated, seated_at, levelled}
 use Rattle.ddf_steps.specs.Steps.{Step, disks_after, rewritten, stays_in}
-use Rattle.ddf_seats.proofs.Lists.{filter_have}
 use Rattle.ddf_uncut_group.specs.Plain.{ArePlain, IsPlain}
 use Rattle.ddf_uncut_group.proofs.PlainCopies.{after_plain, levelled_plain, plain_sectors, recovered_plain, written_plain}
 use Rattle.ddf_uncut_group.proofs.PlainReadied.{readied_have}
@@ -55,7 +55,7 @@ module _ (sizes : List ℕ) where
       → AllByRecursion (λ step. ArePlain sizes step.disks) steps
   readied_plain =
       readied_have (ArePlain sizes) (after_plain sizes) (levelled_plain sizes)
-      (λ timestamp group are. all_mended (leading group) group.config timestamp (filter (lags group) (seated group)) (filter_have IsPlainDisk (lags group) (seated group) are))
+      (λ timestamp group are. all_mended (leading group) group.config timestamp (filter (lags group) (seated group)) (all_filter IsPlainDisk (lags group) (seated group) are))
       (λ timestamp group are. kept_plain timestamp group (seated group) are)
 
 -- ---- how much it writes

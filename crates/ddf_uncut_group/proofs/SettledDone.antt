@@ -9,7 +9,6 @@ use Rattle.ddf_config.specs.declared.refusal.Refusal.{Refusal}
 use Rattle.ddf_config.specs.declared.seat.Seat.{Seat}
 use Rattle.ddf_config.specs.Configuration.{Configuration}
 use Rattle.ddf_plan.specs.declared.change.Change.{Change}
-use Rattle.ddf_seats.specs.declared.fault.GroupFault.{GroupFault}
 use Rattle.ddf_steps.specs.Asked.{CanBeAsked}
 use Rattle.ddf_seats.specs.Group.{GroupValue}
 use Rattle.ddf_assembly.specs.Group.{group_of}
@@ -19,8 +18,9 @@ use Rattle.ddf_assembly.specs.Settled.{IsSettledGroup}
 use Rattle.ddf_assembly.specs.Slots.{newest_from, newest_or}
 use Rattle.ddf_steps.specs.Steps.{Step}
 use Rattle.ddf_recovery.proofs.Recovered.{config_kept}
-use Rattle.ddf_group_commands.specs.Change.{Request, steps_asked, steps_of, steps_or}
+use Rattle.ddf_group_commands.specs.Change.{Request, steps_asked, steps_of}
 use Rattle.ddf_group_commands.specs.Written.{AreWritten}
+use Rattle.ddf_group_commands.proofs.Outcomes.{asked_of}
 use Rattle.ddf_uncut_group.specs.Settled.{AreMembers, AreSettledAs, group_behind, newest_held}
 use Rattle.ddf_uncut_group.specs.Without.{group_lost, without_seat}
 use Rattle.ddf_uncut_group.proofs.LostGroup.{seats_lost}
@@ -58,12 +58,8 @@ pub record AreAsked (group : GroupValue) (timestamp : ℕ) (asked : Result (List
   pub are_changes : asked ≡ Ok changes
   pub are_steps : readied group changes timestamp ≡ Ok steps
 
-steps_are : (answer : Result (List Step) GroupFault) (steps : List Step) → steps_or answer ≡ Ok steps → answer ≡ Ok steps
-steps_are (Ok found) steps h = let same : found ≡ steps = cc in ap (λ (all : List Step). Ok all) same
-steps_are (Err fault) steps h = absurd cc
-
 asked_by : (group : GroupValue) (timestamp : ℕ) (asked : Result (List Change) Refusal) (steps : List Step) → steps_asked group timestamp asked ≡ Ok steps → AreAsked group timestamp asked steps
-asked_by group timestamp (Ok changes) steps h = record { changes = changes; are_changes = refl; are_steps = steps_are (readied group changes timestamp) steps h }
+asked_by group timestamp (Ok changes) steps h = record { changes = changes; are_changes = refl; are_steps = asked_of (readied group changes timestamp) steps h }
 asked_by group timestamp (Err refusal) steps h = absurd cc
 
 -- Of a settled group they are asked for by its configuration.

@@ -11,19 +11,17 @@ use Rattle.ddf_group.specs.Shown.{shown_of}
 use Rattle.ddf_seats.specs.declared.seated.Seated.{Seated}
 use Rattle.ddf_assembly.specs.Assembled.{IsAssembledGroup}
 use Rattle.ddf_seats.specs.Group.{GroupValue, seats_of}
-use Rattle.ddf_assembly.specs.Group.{group_as, group_of, group_or_fault}
+use Rattle.ddf_assembly.specs.Group.{group_of, group_or_fault}
 use Rattle.ddf_assembly.specs.Reading.{AreNewest}
 use Rattle.ddf_seats.specs.Seated.{seated}
 use Rattle.ddf_assembly.specs.Settled.{IsSettledGroup}
 use Rattle.ddf_assembly.proofs.Assembled.{answer_assembled}
 use Rattle.ddf_assembly.proofs.LeftBefore.{IsFoundAs, found_by, group_is}
 use Rattle.ddf_assembly.proofs.Settled.{settled}
+use Rattle.ddf_history_steps.proofs.Told.{made_of}
 use Rattle.ddf_uncut_group.specs.Settled.{IsToldByAll}
 
 -- ---- what is found can be recovered
-
-made_group : (newest : List (Option Newest)) (found : Assembled) (group : GroupValue) → group_or_fault newest (Ok found) ≡ Ok group → group_as newest found ≡ group
-made_group newest found group is = cc
 
 -- A group that newest copies give is assembled as it is to be.
 pub found_assembled : (newest : List (Option Newest)) (named : Option (List ℕ)) (group : GroupValue) → AreNewest newest → group_of newest named ≡ Ok group → IsAssembledGroup group
@@ -32,7 +30,7 @@ found_assembled newest named group are is = by (assembled (map shown_of newest) 
   where
     by : (answer : Result Assembled Assembly) → assembled (map shown_of newest) named ≡ answer → group_or_fault newest answer ≡ Ok group → IsAssembledGroup group
     by (Ok found) same made =
-        subst IsAssembledGroup (made_group newest found group made)
+        subst IsAssembledGroup (made_of newest found group made)
         (answer_assembled newest are named found (inl (sym same)) (seats_of newest found.seats) newest refl refl)
     by (Err fault) same made = absurd cc
 

@@ -3,6 +3,8 @@ use Rattle.std.proofs.Common.{◌≡◌, ℕ, zero, suc, ◌<◌, ◌^◌, true,
 use Rattle.std.proofs.lemmas.List.{length-map}
 use Rattle.std.specs.Prelude.{slice_get, slice_set}
 use Rattle.std.specs.List.{AllByRecursion}
+use Rattle.std.proofs.lemmas.Option.{slice_get_within}
+use Rattle.ddf_lemmas.proofs.Lists.{all_from, all_unmapped, filter_whole, mapped_at}
 use Rattle.ddf_copy.specs.declared.copy.DiskCopy.{DiskCopy}
 use Rattle.ddf_copy.specs.declared.newest_copy.Newest.{Newest}
 use Rattle.ddf_copy.specs.declared.newest_copy.Newest.TheVariants.{Level}
@@ -14,7 +16,7 @@ use Rattle.ddf_plan.specs.declared.change.Change.{Change}
 use Rattle.ddf_view.specs.View.{View, view_of}
 use Rattle.ddf_rewrite.specs.Before.{Before, before}
 use Rattle.ddf_rewrite.specs.Copies.{changed_copy}
-use Rattle.ddf_rewrite.proofs.Lists.{all_by_get, all_mapped, get_map}
+use Rattle.ddf_rewrite.proofs.Lists.{all_mapped}
 use Rattle.ddf_history.specs.Groups.{ShowsFully}
 use Rattle.ddf_history.proofs.Copies.{changed_is_full}
 use Rattle.ddf_seats.specs.declared.seated.Seated.{Seated}
@@ -38,7 +40,6 @@ use Rattle.ddf_history_steps.proofs.CommittingSeats.{can_change, new_is_copy, re
 use Rattle.ddf_history_steps.proofs.Slots.{slot_is}
 use Rattle.ddf_uncut_group.specs.Settled.{AreMembers, IsToldByAll}
 use Rattle.ddf_uncut_group.proofs.SettledFound.{found_settled}
-use Rattle.ddf_uncut_group.proofs.SettledLists.{all_unmapped, filter_whole, some_below}
 
 -- ---- newest copies that can be written
 
@@ -97,11 +98,11 @@ module _ (group : GroupValue) (told : IsToldByAll group) (change : Change) (aske
       subst IsNew is.is_made (record {
         can = closed_can (changed_copy is.disk.copy led next timestamp) copy;
         full = subst (λ (view : View). ShowsFully view next) (sym (same_view led next timestamp is.disk)) (changed_is_full is.disk.copy led next timestamp change copy);
-        within = some_below group.newest is.disk.seat.slot (Some seat.found) seat.is_found;
+        within = slice_get_within group.newest is.disk.seat.slot (Some seat.found) seat.is_found;
       })
 
   all_can : AllByRecursion (λ (disk : Seated). CanBeCopy disk.copy) disks
-  all_can = all_by_get (λ (disk : Seated). CanBeCopy disk.copy) disks (λ k disk at. (new_is k disk at).can)
+  all_can = all_from (λ (disk : Seated). CanBeCopy disk.copy) disks (λ k disk at. (new_is k disk at).can)
 
   are_newest : AreNewest (fold with_level group.newest disks)
   are_newest = newest_levelled group.newest disks told.are_newest all_can
@@ -134,7 +135,7 @@ module _ (group : GroupValue) (told : IsToldByAll group) (change : Change) (aske
     own_full =
         subst (λ (all : List Seated). AllByRecursion (λ (disk : Seated). ShowsFully (view_of disk.copy) next) all) (sym own_disks)
         (all_mapped (λ (disk : Seated). ShowsFully (view_of disk.copy) next) levelled disks
-        (all_by_get (λ (disk : Seated). ShowsFully (view_of (levelled disk).copy) next) disks (λ k disk at. (new_is k disk at).full)))
+        (all_from (λ (disk : Seated). ShowsFully (view_of (levelled disk).copy) next) disks (λ k disk at. (new_is k disk at).full)))
 
   -- ---- where all disks stay members
 
@@ -163,7 +164,7 @@ module _ (group : GroupValue) (told : IsToldByAll group) (change : Change) (aske
       | inl here ↦
           subst (λ (n : ℕ). is_slot (slots_of (seats_in disks)) n ≡ true) (sym here.3)
           (slot_is (slots_of (seats_in disks)) here.0 here.1.seat.slot
-          (get_map (λ (seat : Seat). seat.slot) (seats_in disks) here.0 here.1.seat (get_map (λ (disk : Seated). disk.seat) disks here.0 here.1 here.2)))
+          (mapped_at (λ (seat : Seat). seat.slot) (seats_in disks) here.0 here.1.seat (mapped_at (λ (disk : Seated). disk.seat) disks here.0 here.1 here.2)))
       | inr none ↦
           subst (λ (seats : List Seat). is_slot (slots_of seats) slot ≡ true) (sym own_seats)
           (told.none_beside slot found (sym (level_else group.newest disks slot none) ∙ at))

@@ -1,11 +1,14 @@
 -- What newest copies give of which each, where there is one, is that of a disk that shows one configuration.
-use Rattle.std.proofs.Common.{◌≡◌, ℕ, zero, suc, ◌<◌, Bool, true, false, not, ◌||◌, List, [], ◌∷◌, length, map, filter, Option, Some, None, Ok, Err, refl, ap, sym, ◌∙◌, subst, arith, zero-add, if◌then◌else◌}
+use Rattle.std.proofs.Common.{◌≡◌, ℕ, suc, ◌<◌, Bool, true, false, not, ◌||◌, List, [], ◌∷◌, length, map, filter, Option, Some, None, Ok, Err, refl, ap, sym, ◌∙◌, subst, arith, zero-add, if◌then◌else◌}
 use Rattle.std.proofs.lemmas.Bool.{false≢true, or_left}
 use Rattle.std.proofs.lemmas.List.{length-map}
 use Rattle.std.specs.Prelude.{filter_map, option_map, slice_get}
-use Rattle.std.specs.List.{AllByRecursion, list_any, range_with_len}
+use Rattle.std.specs.List.{range_with_len}
 use Rattle.std.specs.Option.{option_and_then, option_map_or}
-use Rattle.ddf_bytes.proofs.Nones.{none_map}
+use Rattle.std.proofs.lemmas.Map.Keys.{any_passes_from_place}
+use Rattle.std.proofs.lemmas.Option.{slice_get_within}
+use Rattle.ddf_lemmas.proofs.Lists.{all_from, filter_all, in_map, none_kept}
+use Rattle.ddf_lemmas.proofs.Options.{none_from_map}
 use Rattle.ddf_copy.specs.declared.newest_copy.Newest.{Newest}
 use Rattle.ddf_copy.specs.declared.newest_copy.Newest.TheVariants as newests
 use Rattle.ddf_copy.specs.Copies.{standing_copy}
@@ -16,7 +19,6 @@ use Rattle.ddf_view.specs.Reading.{read}
 use Rattle.ddf_view.specs.Shows.{shows}
 use Rattle.ddf_view.specs.View.{View, lists_current, view_of}
 use Rattle.ddf_view.proofs.Agreement.{read_together, shown_from}
-use Rattle.ddf_view.proofs.Finds.{when_false}
 use Rattle.ddf_group.specs.declared.shown.Shown.{Shown}
 use Rattle.ddf_group.specs.declared.shown.Shown.TheVariants.{Level, Nothing}
 use Rattle.ddf_group.specs.declared.answer.Assembly.{Assembly}
@@ -29,42 +31,18 @@ use Rattle.ddf_group.specs.Pairs.{first_pair}
 use Rattle.ddf_group.specs.Shown.{shown_of}
 use Rattle.ddf_group.specs.Slots.{claimed, claims, claims_by, leaders, leading_view, leads, numbers, reference_at, sequence_in, shows_group, slot_at, view_in}
 use Rattle.ddf_history.specs.Groups.{ShowsFully}
-use Rattle.ddf_rewrite.proofs.Lists.{all_by_get, all_mapped, get_range, map_get, or_true}
+use Rattle.ddf_rewrite.proofs.Lists.{all_mapped, get_range}
 use Rattle.ddf_seats.specs.declared.seated.Seated.{Seated}
 use Rattle.ddf_seats.specs.Group.{GroupValue, seat_at, seat_of, seats_of}
 use Rattle.ddf_assembly.specs.Group.{group_as, group_of, group_or_fault}
 use Rattle.ddf_seats.specs.Seated.{seats_in, slots_in, views_in}
 use Rattle.ddf_seats.specs.Changing.{SlotsRise}
-use Rattle.ddf_steps.proofs.CommittedLevels.{filter_all}
 use Rattle.ddf_assembly.proofs.LeftBefore.{level_at, shows_own, shows_within}
 use Rattle.ddf_recovery.proofs.LeftLists.{IsNoneOf, pair_kept}
 use Rattle.ddf_assembly.proofs.LeftMembers.{AreApart, IsCurrentIn, lists_from}
 use Rattle.ddf_recovery.proofs.LeftSlots.{IsLeft, IsWritten, claimed_are, leaders_are, not_contradicted}
 use Rattle.ddf_assembly.proofs.SettledLists.{find_kept}
-use Rattle.ddf_assembly.proofs.SettledSeats.{Rise}
-use Rattle.ddf_uncut_group.proofs.SettledLists.{some_below}
-
--- ---- lists
-
--- Where each item fails a test, none is kept.
-filter_none : {X : Type 0} (test : X → Bool) (xs : List X) → ((k : ℕ) (x : X) → slice_get xs k ≡ Some x → test x ≡ false) → filter test xs ≡ []
-filter_none test [] fails = refl
-filter_none test (x ∷ xs) fails = when_false (test x) (x ∷ filter test xs) (filter test xs) (fails 0 x refl) ∙ filter_none test xs (λ k. fails (suc k))
-
--- Some item passes a test that one of the list passes.
-any_from : {X : Type 0} (p : X → Bool) (xs : List X) (j : ℕ) (x : X) → slice_get xs j ≡ Some x → p x ≡ true → list_any p xs ≡ true
-any_from p [] j x at passes = absurd cc
-any_from p (y ∷ ys) zero x at passes = let same : y ≡ x = cc in ap (λ b. b || list_any p ys) (ap p same ∙ passes)
-any_from p (y ∷ ys) (suc j) x at passes = or_true (p y) (list_any p ys) (any_from p ys j x at passes)
-
--- The slots of disks rise where those of their seats do.
-pub rise_of : (disks : List Seated) → SlotsRise (seats_in disks) → Rise (slots_in disks)
-rise_of [] rise = tt
-rise_of (disk ∷ disks) rise = (above disks rise.0, rise_of disks rise.1)
-  where
-    above : (some : List Seated) → AllByRecursion (λ (seat : Seat). disk.seat.slot < seat.slot) (seats_in some) → AllByRecursion (λ slot. disk.seat.slot < slot) (slots_in some)
-    above [] all = tt
-    above (one ∷ some) all = (all.0, above some all.1)
+use Rattle.ddf_recovery.proofs.LeftStep.{rise_of}
 
 -- ---- disks that tell a configuration
 
@@ -94,7 +72,7 @@ reads_full config (first ∷ rest) full some =
     let own = full 0 first refl in
     read_together config (view_of first.copy) (views_in rest) own.readable own.notes own.fully
     (all_mapped (λ (view : View). shows config view ≡ true) (λ (disk : Seated). view_of disk.copy) rest
-    (all_by_get (λ (disk : Seated). shows config (view_of disk.copy) ≡ true) rest (λ k disk at. (full (suc k) disk at).shows.shows)))
+    (all_from (λ (disk : Seated). shows config (view_of disk.copy) ≡ true) rest (λ k disk at. (full (suc k) disk at).shows.shows)))
 
 -- ---- slots that a group is concerned with
 
@@ -122,7 +100,7 @@ twins_kept before after guid long still none =
     ap (option_map (λ (reference : ℕ). in_conflict after guid i j (differs.Twin reference)))
     (ap (λ (o : Option ℕ). same_reference o (reference_at after j)) (still i one).1
     ∙ ap (same_reference (reference_at before i)) (still j other).1
-    ∙ none_map (λ (reference : ℕ). in_conflict before guid i j (differs.Twin reference)) (same_reference (reference_at before i) (reference_at before j)) apart))
+    ∙ none_from_map (λ (reference : ℕ). in_conflict before guid i j (differs.Twin reference)) (same_reference (reference_at before i) (reference_at before j)) apart))
     (ap (λ (n : ℕ). first_pair (twin_of before guid) (filter (is_concerned before guid) (range_with_len 0 n))) long ∙ none)
 
 module _ (newest : List (Option Newest)) (config : Configuration) (first : Seated) (rest : List Seated) (are : AreTelling newest config (first ∷ rest)) where
@@ -148,7 +126,7 @@ module _ (newest : List (Option Newest)) (config : Configuration) (first : Seate
 
   on_of : (slot : ℕ) (view : View) → IsWritten slots (slots_in disks) slot view → IsOn slot view
   on_of slot view written =
-      let disk = map_get (λ (one : Seated). one.seat.slot) disks written.place slot written.at in
+      let disk = in_map (λ (one : Seated). one.seat.slot) disks written.place slot written.at in
       let same : Level (view_of disk.0.copy) ≡ Level view = sym (sym (ap (slot_at slots) disk.2) ∙ shown_here written.place disk.0 disk.1) ∙ written.shown in
       record { place = written.place; disk = disk.0; at = disk.1; on_slot = disk.2; is_view = cc }
 
@@ -169,15 +147,15 @@ module _ (newest : List (Option Newest)) (config : Configuration) (first : Seate
   is_left = record {
     same_length = refl;
     rise = rise_of disks are.rise;
-    within = all_by_get (λ (slot : ℕ). slot < length slots) (slots_in disks)
+    within = all_from (λ (slot : ℕ). slot < length slots) (slots_in disks)
         (λ k slot at.
-        let disk = map_get (λ (one : Seated). one.seat.slot) disks k slot at in
-        let below = some_below newest disk.0.seat.slot (Some (newests.Level disk.0.copy)) (are.each k disk.0 disk.1).is_newest in
+        let disk = in_map (λ (one : Seated). one.seat.slot) disks k slot at in
+        let below = slice_get_within newest disk.0.seat.slot (Some (newests.Level disk.0.copy)) (are.each k disk.0 disk.1).is_newest in
         let same = disk.2 in
         let long : length slots ≡ length newest = length-map newest shown_of in
         omega (arith, below, same, long));
     views = λ place slot at.
-        let disk = map_get (λ (one : Seated). one.seat.slot) disks place slot at in
+        let disk = in_map (λ (one : Seated). one.seat.slot) disks place slot at in
         (view_of disk.0.copy, sym (ap (slot_at slots) disk.2) ∙ shown_here place disk.0 disk.1);
     others = λ slot none. refl;
     shows = λ slot view written. let on = on_of slot view written in subst (λ (one : View). shows_group guid (Level one) ≡ true) on.is_view (shows_it on.place on.disk on.at);
@@ -198,7 +176,7 @@ module _ (newest : List (Option Newest)) (config : Configuration) (first : Seate
         subst (λ (view : View). difference one view ≡ None) its.is_view
         (subst (λ (view : View). difference view (view_of its.disk.copy) ≡ None) on.is_view (are.agree on.place its.place on.disk its.disk on.at its.at));
     were_concerned = λ place slot at.
-        let disk = map_get (λ (one : Seated). one.seat.slot) disks place slot at in
+        let disk = in_map (λ (one : Seated). one.seat.slot) disks place slot at in
         or_left (shows_group guid (slot_at slots slot)) (claims slots guid slot)
         (sym (ap (λ (n : ℕ). shows_group guid (slot_at slots n)) disk.2) ∙ ap (shows_group guid) (shown_here place disk.0 disk.1) ∙ shows_it place disk.0 disk.1);
     same_references = λ place slot at. refl;
@@ -248,9 +226,9 @@ module _ (newest : List (Option Newest)) (config : Configuration) (first : Seate
 
   none_lags : lagging slots (slots_in disks) config ≡ []
   none_lags =
-      filter_none (λ (slot : ℕ). not (has_config config (slot_at slots slot))) (slots_in disks)
+      none_kept (λ (slot : ℕ). not (has_config config (slot_at slots slot))) (slots_in disks)
       (λ k slot at.
-      let of = map_get (λ (one : Seated). one.seat.slot) disks k slot at in
+      let of = in_map (λ (one : Seated). one.seat.slot) disks k slot at in
       ap (λ (shown : Shown). not (has_config config shown)) (sym (ap (slot_at slots) of.2) ∙ shown_here k of.0 of.1) ∙ ap not (are.each k of.0 of.1).is_shown)
 
   -- ---- it is found
@@ -259,7 +237,7 @@ module _ (newest : List (Option Newest)) (config : Configuration) (first : Seate
   is_shown_now =
       let shown : shows_group guid (slot_at slots first.seat.slot) ≡ true = ap (shows_group guid) (shown_here 0 first refl) ∙ shows_it 0 first refl in
       let there = get_range 0 (length slots) first.seat.slot (shows_within guid slots first.seat.slot shown) in
-      any_from (λ slot. shows_group guid (slot_at slots slot)) (numbers slots) first.seat.slot first.seat.slot (there.2 ∙ ap (λ (n : ℕ). Some n) (there.1 ∙ zero-add first.seat.slot)) shown
+      any_passes_from_place (λ slot. shows_group guid (slot_at slots slot)) (numbers slots) first.seat.slot first.seat.slot (there.2 ∙ ap (λ (n : ℕ). Some n) (there.1 ∙ zero-add first.seat.slot)) shown
 
   abbrev as_group : List Seat → List ℕ → List ℕ → GroupValue
   as_group seats gone behind_it = record { config = config; seats = seats; absent = gone; lagging = behind_it; newest = newest }

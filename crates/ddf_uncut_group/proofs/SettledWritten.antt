@@ -1,8 +1,10 @@
 -- What disks hold of a settled group once its steps were written to them.
-use Rattle.std.proofs.Common.{◌≡◌, ◌≢◌, ℕ, zero, suc, ◌+◌, ◌<◌, ◌^◌, Bool, true, false, List, [], ◌∷◌, length, map, fold, Option, Some, None, Ok, refl, ap, sym, ◌∙◌, subst, inl, inr, arith, length-set, zero-add, if◌then◌else◌}
+use Rattle.std.proofs.Common.{◌≡◌, ◌≢◌, ℕ, zero, suc, ◌+◌, ◌<◌, ◌^◌, Bool, true, false, List, [], ◌∷◌, length, map, fold, Option, Some, None, Ok, refl, ap, sym, ◌∙◌, subst, inl, inr, arith, zero-add, if◌then◌else◌}
 use Rattle.std.proofs.Math.Path.{fun_ext}
 use Rattle.std.specs.Prelude.{slice_get, slice_index}
 use Rattle.std.specs.List.{AllByRecursion}
+use Rattle.std.proofs.lemmas.Option.{slice_get_within}
+use Rattle.ddf_lemmas.proofs.Lists.{all_from, in_map, some_at_place}
 use Rattle.ddf_bay.specs.Sectors.{Image}
 use Rattle.ddf_header.specs.declared.reading.Header.{Header}
 use Rattle.ddf_copy.specs.declared.copy.DiskCopy.{DiskCopy}
@@ -14,7 +16,7 @@ use Rattle.ddf_copy.specs.Headers.{written_as}
 use Rattle.ddf_config.specs.declared.seat.Seat.{Seat}
 use Rattle.ddf_plan.specs.declared.change.Change.{Change}
 use Rattle.ddf_rewrite.specs.Before.{before}
-use Rattle.ddf_rewrite.proofs.Lists.{all_at, all_by_get, map_get, some_same}
+use Rattle.ddf_rewrite.proofs.Lists.{all_at, some_same}
 use Rattle.ddf_update.specs.Update.{AreBoth}
 use Rattle.ddf_seats.specs.declared.seated.Seated.{Seated}
 use Rattle.ddf_steps.specs.Asked.{CanBeAsked}
@@ -29,12 +31,13 @@ use Rattle.ddf_steps.proofs.CommittedLevels.{level_else, level_here, slot_or_non
 use Rattle.ddf_recovery.proofs.CommittedReadied.{disks_rewritten}
 use Rattle.ddf_seats.proofs.CommittedSeats.{seated_is}
 use Rattle.ddf_recovery.proofs.LeftGroup.{one_step}
+use Rattle.ddf_recovery.proofs.LeftStep.{long_still}
 use Rattle.ddf_history_steps.specs.Floors.{HasFloor}
 use Rattle.ddf_group_commands.specs.Written.{IsBeside, IsWritten}
 use Rattle.ddf_history_steps.specs.BlockFloors.{AreFloored, IsFloored}
 use Rattle.ddf_history_steps.proofs.Floored.{group_floored}
 use Rattle.ddf_uncut_group.specs.Settled.{AreMembers, AreSettledAs, IsToldByAll, newest_held}
-use Rattle.ddf_uncut_group.proofs.SettledLists.{same_list, some_below, some_there}
+use Rattle.ddf_uncut_group.proofs.SettledLists.{same_list}
 use Rattle.ddf_uncut_group.proofs.SettledStep.{disk_there, disks_behind, settled_behind, told_behind}
 
 -- ---- newest copies
@@ -75,10 +78,6 @@ newest_both size sector copy anchor both as_primary =
     ap (newest_under size sector) both.is_anchored ∙ ap (λ (newest : Newest). Some newest) (both.are_level ∙ ap (λ (one : DiskCopy). Level one) as_primary)
 
 -- ---- a step
-
-long_still : (newest : List (Option Newest)) (disks : List Seated) → length (fold with_level newest disks) ≡ length newest
-long_still newest [] = refl
-long_still newest (disk ∷ disks) = long_still (with_level newest disk) disks ∙ length-set newest disk.seat.slot (Some (Level disk.copy))
 
 module _ (sizes : List ℕ) (before_it after_it : Image) (left : List Bool) (group : GroupValue) (are_held : newest_held sizes before_it 0 left ≡ group.newest)
     (step : Step) (rise : SlotsRise (seats_in step.disks)) (rewrites : AllByRecursion (IsRewritten (seated group) step.config) step.disks)
@@ -125,7 +124,7 @@ module _ (sizes : List ℕ) (before_it after_it : Image) (left : List Bool) (gro
       (length_held sizes after_it 0 left ∙ long ∙ sym (long_still kept step.disks))
       (λ slot below.
       let counted : length (newest_held sizes after_it 0 left) ≡ length left = length_held sizes after_it 0 left in
-      let out = some_there left slot (omega (arith, below, counted)) in
+      let out = some_at_place left slot (omega (arith, below, counted)) in
       held_first sizes after_it left slot out.0 out.1 ∙ by slot out.0 out.1)
     where
       by : (slot : ℕ) (out : Bool) → slice_get left slot ≡ Some out → Some (held_or sizes after_it slot out) ≡ slice_get (fold with_level kept step.disks) slot
@@ -133,7 +132,7 @@ module _ (sizes : List ℕ) (before_it after_it : Image) (left : List Bool) (gro
         | inl found ↦
             let own = had found.0 found.1 found.2 in
             ap (λ (newest : Option Newest). Some newest) (after_here found.0 found.1 slot out found.2 found.3 at)
-            ∙ sym (ap (λ (n : ℕ). slice_get (fold with_level kept step.disks) n) found.3 ∙ level_here kept step.disks rise found.0 found.1 found.2 (some_below kept found.1.seat.slot (Some own.0) own.1))
+            ∙ sym (ap (λ (n : ℕ). slice_get (fold with_level kept step.disks) n) found.3 ∙ level_here kept step.disks rise found.0 found.1 found.2 (slice_get_within kept found.1.seat.slot (Some own.0) own.1))
         | inr none ↦
             ap (λ (newest : Option Newest). Some newest) (after_else slot out none)
             ∙ sym (before_at slot out at) ∙ sym (level_else kept step.disks slot none)
@@ -143,9 +142,9 @@ module _ (sizes : List ℕ) (before_it after_it : Image) (left : List Bool) (gro
   pub floors_behind : AllByRecursion (λ (seat : Seat). HasFloor (slice_index sizes seat.slot) (before_it seat.slot) seat.floor) group.seats → AreFloored step.disks
       → AllByRecursion (λ (seat : Seat). HasFloor (slice_index sizes seat.slot) (after_it seat.slot) seat.floor) (seats_in step.disks)
   floors_behind have floored =
-      all_by_get (λ (seat : Seat). HasFloor (slice_index sizes seat.slot) (after_it seat.slot) seat.floor) (seats_in step.disks)
+      all_from (λ (seat : Seat). HasFloor (slice_index sizes seat.slot) (after_it seat.slot) seat.floor) (seats_in step.disks)
       (λ k seat at.
-      let disk = map_get (λ (one : Seated). one.seat) step.disks k seat at in
+      let disk = in_map (λ (one : Seated). one.seat) step.disks k seat at in
       let is = disk_is k disk.0 disk.1 in
       let own = seated_is group is.place is.before is.is_there in
       let had_floor = all_at (λ (one : Seat). HasFloor (slice_index sizes one.slot) (before_it one.slot) one.floor) group.seats own.place is.before.seat have own.is_seat in

@@ -1,11 +1,10 @@
 -- Several steps of a settled group that all of its disks tell.
-use Rattle.std.proofs.Common.{◌≡◌, ℕ, ◌<◌, ◌^◌, Bool, false, List, [], ◌∷◌, Some, Result, Ok, Err, refl, ap, sym, ◌∙◌, subst, inl, inr}
+use Rattle.std.proofs.Common.{◌≡◌, ℕ, ◌<◌, ◌^◌, Bool, false, List, [], ◌∷◌, Some, Ok, Err, refl, ap, sym, ◌∙◌, subst, inl, inr}
 use Rattle.std.proofs.Math.Path.{fun_ext}
 use Rattle.std.specs.List.{AllByRecursion}
 use Rattle.ddf_bay.specs.Sectors.{Image}
 use Rattle.ddf_config.specs.declared.seat.Seat.{Seat}
 use Rattle.ddf_plan.specs.declared.change.Change.{Change}
-use Rattle.ddf_seats.specs.declared.fault.GroupFault.{GroupFault}
 use Rattle.ddf_steps.specs.Asked.{CanBeAsked}
 use Rattle.ddf_seats.specs.Group.{GroupValue}
 use Rattle.ddf_steps.specs.Ready.{group_after}
@@ -13,14 +12,12 @@ use Rattle.ddf_recovery.specs.Ready.{readied, with_recovery}
 use Rattle.ddf_assembly.specs.Settled.{IsSettledGroup}
 use Rattle.ddf_steps.specs.Steps.{Step}
 use Rattle.ddf_recovery.proofs.Recovered.{settled_readied}
+use Rattle.ddf_recovery.proofs.ReadiedSteps.{Answer}
 use Rattle.ddf_group_commands.specs.Written.{AreWritten}
 use Rattle.ddf_uncut_group.specs.Settled.{AreMembers, AreSettledAs, IsToldByAll, group_behind}
 use Rattle.ddf_uncut_group.proofs.SettledStep.{disk_there, disks_behind, seats_behind, settled_behind, told_behind}
 use Rattle.ddf_uncut_group.proofs.SettledWritten.{step_settled}
 use Rattle.ddf_uncut_group.proofs.StepsSplit.{readied_behind, readied_none, split}
-
-abbrev Answer : Type 0
-Answer = Result (List Step) GroupFault
 
 -- Without a change there is no step.
 pub readied_nothing : (group : GroupValue) → IsSettledGroup group → (timestamp : ℕ) → readied group [] timestamp ≡ Ok []

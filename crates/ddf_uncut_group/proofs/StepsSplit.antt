@@ -4,7 +4,6 @@ use Rattle.std.specs.List.{list_any}
 use Rattle.ddf_config.specs.declared.refusal.Refusal.{Refusal}
 use Rattle.ddf_plan.specs.declared.change.Change.{Change}
 use Rattle.ddf_plan.specs.Same.{is_step}
-use Rattle.ddf_seats.specs.declared.fault.GroupFault.{GroupFault}
 use Rattle.ddf_seats.specs.declared.fault.GroupFault.TheVariants.{Refused, SequenceSpent}
 use Rattle.ddf_seats.specs.declared.seated.Seated.{Seated}
 use Rattle.ddf_seats.specs.Group.{GroupValue}
@@ -16,12 +15,10 @@ use Rattle.ddf_assembly.specs.Settled.{IsSettledGroup}
 use Rattle.ddf_steps.specs.Steps.{Step, step_of}
 use Rattle.ddf_recovery.proofs.LeftGroup.{one_step}
 use Rattle.ddf_recovery.proofs.Recovered.{settled_readied}
+use Rattle.ddf_recovery.proofs.ReadiedSteps.{Answer}
 
 abbrev Tried : Type 0
 Tried = Result (List Step) Refusal
-
-abbrev Answer : Type 0
-Answer = Result (List Step) GroupFault
 
 abbrev or_spent : List Step → Bool → Answer
 or_spent all spent = if spent then Err SequenceSpent else Ok all

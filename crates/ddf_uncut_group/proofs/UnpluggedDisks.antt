@@ -1,11 +1,13 @@
 -- The disks of a settled group that all of them tell: each leads, is a current member of its own, and agrees with every other.
 use Rattle.std.proofs.Common.{◌≡◌, ℕ, zero, suc, ◌+◌, ◌<◌, ◌≤◌, Bool, true, false, ◌&&◌, eqb, nat_eq, List, [], ◌∷◌, length, map, filter, Option, Some, None, refl, ap, sym, ◌∙◌, subst, inl, inr, arith}
-use Rattle.std.proofs.lemmas.Bool.{and_parts, cases_eq, cases_lt, eq-eqb, eqb-true, false≢true}
+use Rattle.std.proofs.lemmas.Bool.{and_parts, cases_eq, cases_lt, eq-eqb, eqb-true, false≢true, cond-false, cond-true, or_right}
 use Rattle.std.specs.Prelude.{option_map, slice_get}
 use Rattle.std.specs.List.{IsDistinct, range_with_len}
-use Rattle.std.specs.Option.{option_or}
 use Rattle.std.specs.Cmp.Lexicographic.{pointwise}
-use Rattle.ddf_bytes.proofs.Nones.{none_first, none_map, none_when}
+use Rattle.ddf_lemmas.proofs.Lists.{mapped_at, some_at_place}
+use Rattle.ddf_lemmas.proofs.Options.{none_from_map, none_of_both}
+use Rattle.ddf_lemmas.proofs.Tests.{eqb_self}
+use Rattle.ddf_bytes.proofs.Nones.{none_first, none_when}
 use Rattle.ddf_tables.specs.declared.disks.DiskEntry.{DiskEntry}
 use Rattle.ddf_copy.specs.declared.copy.DiskCopy.{DiskCopy}
 use Rattle.ddf_copy.specs.declared.newest_copy.Newest.TheVariants.{Level}
@@ -15,7 +17,6 @@ use Rattle.ddf_view.specs.Differ.{difference}
 use Rattle.ddf_view.specs.Shows.{gives_member, same_flag}
 use Rattle.ddf_view.specs.View.{View, is_missing, view_of}
 use Rattle.ddf_view.proofs.Agreement.{shown_from}
-use Rattle.ddf_view.proofs.Finds.{when_false, when_true}
 use Rattle.ddf_view.proofs.Tests.{and_four}
 use Rattle.ddf_group.specs.declared.shown.Shown.{Shown}
 use Rattle.ddf_group.specs.declared.shown.Shown.TheVariants as shows_as
@@ -26,7 +27,7 @@ use Rattle.ddf_group.specs.Shown.{shown_of}
 use Rattle.ddf_group.specs.Slots.{claims, leaders, leads, none_later, numbers, reference_at, sequence_in, shows_group, slot_at, view_in}
 use Rattle.ddf_history.specs.Groups.{ShowsFully}
 use Rattle.ddf_rewrite.proofs.Differences.{agrees, agrees_back, agrees_self, no_difference}
-use Rattle.ddf_rewrite.proofs.Lists.{all_at, get_map, one_place, or_true, some_same}
+use Rattle.ddf_rewrite.proofs.Lists.{all_at, one_place, some_same}
 use Rattle.ddf_seats.specs.declared.seated.Seated.{Seated}
 use Rattle.ddf_seats.specs.Group.{GroupValue}
 use Rattle.ddf_seats.specs.Seated.{seated}
@@ -35,13 +36,8 @@ use Rattle.ddf_assembly.proofs.LeftMembers.{AreApart, IsCurrentIn}
 use Rattle.ddf_recovery.proofs.LeftStep.{own_reference}
 use Rattle.ddf_uncut_group.specs.Settled.{IsToldByAll}
 use Rattle.ddf_uncut_group.proofs.SettledFound.{found_as, some_disk}
-use Rattle.ddf_uncut_group.proofs.SettledLists.{some_there}
 
 -- ---- pairs of a range
-
-neither : {Y : Type 0} (one other : Option Y) → option_or one other ≡ None → (one ≡ None) × (other ≡ None)
-neither None other h = (refl, h)
-neither (Some y) other h = absurd cc
 
 -- Where nothing is found of what a test keeps of a range, nothing is found of a number that passes.
 none_kept : {Y : Type 0} (test : ℕ → Option Y) (keep : ℕ → Bool) (first count n : ℕ) → first_with test (filter keep (range_with_len first count)) ≡ None
@@ -51,14 +47,14 @@ none_kept test keep first (suc count) n none low high kept = by (none_kept test 
   where
     by : (first_with test (filter keep (range_with_len (first + 1) count)) ≡ None → first + 1 ≤ n → n < first + 1 + count → keep n ≡ true → test n ≡ None) → (b : Bool) → keep first ≡ b → test n ≡ None
     by later true e =
-        let both = neither (test first) (first_with test (filter keep (range_with_len (first + 1) count)))
-        (sym (ap (first_with test) (when_true (keep first) (first ∷ filter keep (range_with_len (first + 1) count)) (filter keep (range_with_len (first + 1) count)) e)) ∙ none) in
+        let both = none_of_both (test first) (first_with test (filter keep (range_with_len (first + 1) count)))
+        (sym (ap (first_with test) (cond-true (keep first) (first ∷ filter keep (range_with_len (first + 1) count)) (filter keep (range_with_len (first + 1) count)) e)) ∙ none) in
         elim (cases_eq n first) [
           | inl same ↦ ap test same ∙ both.0
           | inr differ ↦ later both.1 (omega (arith, low, differ)) (omega (arith, high)) kept
         ]
     by later false e =
-        let rest = sym (ap (first_with test) (when_false (keep first) (first ∷ filter keep (range_with_len (first + 1) count)) (filter keep (range_with_len (first + 1) count)) e)) ∙ none in
+        let rest = sym (ap (first_with test) (cond-false (keep first) (first ∷ filter keep (range_with_len (first + 1) count)) (filter keep (range_with_len (first + 1) count)) e)) ∙ none in
         elim (cases_eq n first) [
           | inl same ↦ absurd (false≢true (sym e ∙ ap keep (sym same) ∙ kept))
           | inr differ ↦ later rest (omega (arith, low, differ)) (omega (arith, high)) kept
@@ -73,8 +69,8 @@ pair_of_range test keep first (suc count) s t none low less high one other = by 
     by : (first_pair test (filter keep (range_with_len (first + 1) count)) ≡ None → first + 1 ≤ s → s < t → t < first + 1 + count → keep s ≡ true → keep t ≡ true → test s t ≡ None)
         → (b : Bool) → keep first ≡ b → test s t ≡ None
     by later true e =
-        let both = neither (first_with (test first) (filter keep (range_with_len (first + 1) count))) (first_pair test (filter keep (range_with_len (first + 1) count)))
-        (sym (ap (first_pair test) (when_true (keep first) (first ∷ filter keep (range_with_len (first + 1) count)) (filter keep (range_with_len (first + 1) count)) e)) ∙ none) in
+        let both = none_of_both (first_with (test first) (filter keep (range_with_len (first + 1) count))) (first_pair test (filter keep (range_with_len (first + 1) count)))
+        (sym (ap (first_pair test) (cond-true (keep first) (first ∷ filter keep (range_with_len (first + 1) count)) (filter keep (range_with_len (first + 1) count)) e)) ∙ none) in
         elim (cases_eq s first) [
           | inl same ↦
               ap (λ (n : ℕ). test n t) same
@@ -82,7 +78,7 @@ pair_of_range test keep first (suc count) s t none low less high one other = by 
           | inr differ ↦ later both.1 (omega (arith, low, differ)) less (omega (arith, high)) one other
         ]
     by later false e =
-        let rest = sym (ap (first_pair test) (when_false (keep first) (first ∷ filter keep (range_with_len (first + 1) count)) (filter keep (range_with_len (first + 1) count)) e)) ∙ none in
+        let rest = sym (ap (first_pair test) (cond-false (keep first) (first ∷ filter keep (range_with_len (first + 1) count)) (filter keep (range_with_len (first + 1) count)) e)) ∙ none in
         elim (cases_eq s first) [
           | inl same ↦ absurd (false≢true (sym e ∙ ap keep (sym same) ∙ one))
           | inr differ ↦ later rest (omega (arith, low, differ)) less (omega (arith, high)) one other
@@ -101,9 +97,6 @@ same_keys (disk ∷ disks) (entry ∷ members) gives =
     let key : disk.reference ≡ entry.0 = eqb-true disk.reference entry.0 here.0 in
     ap (λ (n : ℕ). n ∷ map (λ (one : DiskEntry). one.reference) disks) key ∙ ap (λ (keys : List ℕ). entry.0 ∷ keys) (same_keys disks members parts.1)
 
-eqb_self : (n : ℕ) → nat_eq n n ≡ true
-eqb_self n = eq-eqb n n refl
-
 module _ (group : GroupValue) (told : IsToldByAll group) where
   abbrev guid : List ℕ
   guid = group.config.group
@@ -119,15 +112,15 @@ module _ (group : GroupValue) (told : IsToldByAll group) where
   -- No two members have one reference.
   pub distinct : IsDistinct nat_eq (map (λ (entry : ℕ × Member). entry.0) group.config.members)
   distinct =
-      let disk = some_there (seated group) 0 (some_disk group told) in
+      let disk = some_at_place (seated group) 0 (some_disk group told) in
       let full = all_at (λ (one : Seated). ShowsFully (view_of one.copy) group.config) (seated group) 0 disk.0 told.are_full disk.1 in
       subst (λ (keys : List ℕ). IsDistinct nat_eq keys) (same_keys (view_of disk.0.copy).disks group.config.members (shown_from group.config (view_of disk.0.copy) full.shows.shows).members) full.shows.names.references
 
   pub member_place : (i j : ℕ) (one other : ℕ × Member) → slice_get group.config.members i ≡ Some one → slice_get group.config.members j ≡ Some other → one.0 ≡ other.0 → i ≡ j
   member_place i j one other at also same =
       one_place nat_eq eqb_self (map (λ (entry : ℕ × Member). entry.0) group.config.members) distinct i j one.0
-      (get_map (λ (entry : ℕ × Member). entry.0) group.config.members i one at)
-      (get_map (λ (entry : ℕ × Member). entry.0) group.config.members j other also ∙ ap (λ (n : ℕ). Some n) (sym same))
+      (mapped_at (λ (entry : ℕ × Member). entry.0) group.config.members i one at)
+      (mapped_at (λ (entry : ℕ × Member). entry.0) group.config.members j other also ∙ ap (λ (n : ℕ). Some n) (sym same))
 
   pub apart : AreApart group.config.members
   apart i j one other at also same =
@@ -168,7 +161,7 @@ module _ (group : GroupValue) (told : IsToldByAll group) where
         both a b p q = ap (λ x. x && b) p ∙ q
 
     pub disk_concerned : is_concerned slots guid disk.seat.slot ≡ true
-    disk_concerned = or_true (shows_group guid (slot_at slots disk.seat.slot)) (claims slots guid disk.seat.slot) claim.is_claimed
+    disk_concerned = or_right (shows_group guid (slot_at slots disk.seat.slot)) (claims slots guid disk.seat.slot) claim.is_claimed
 
   -- ---- two of them
 
@@ -194,7 +187,7 @@ module _ (group : GroupValue) (told : IsToldByAll group) where
         let none = pair_of_range (differ_at slots guid) (leads slots guid) 0 (length slots) one.seat.slot other.seat.slot none_differ (omega arith) less (omega (arith, below))
         (disk_leads i one at) (disk_leads j other also) in
         sym (ap (λ (view : Option View). difference_of view (view_in (slot_at slots other.seat.slot))) view_one ∙ ap (difference_of (Some (view_of one.copy))) view_other)
-        ∙ none_map (λ found. in_conflict slots guid one.seat.slot other.seat.slot (differ_of found)) (difference_of (view_in (slot_at slots one.seat.slot)) (view_in (slot_at slots other.seat.slot))) none
+        ∙ none_from_map (λ found. in_conflict slots guid one.seat.slot other.seat.slot (differ_of found)) (difference_of (view_in (slot_at slots one.seat.slot)) (view_in (slot_at slots other.seat.slot))) none
 
     -- The one on the lower slot has another reference.
     apart_less : one.seat.slot < other.seat.slot → eqb one.seat.reference other.seat.reference ≡ false
@@ -202,7 +195,7 @@ module _ (group : GroupValue) (told : IsToldByAll group) where
         let below = within j other also in
         let none = pair_of_range (twin_of slots guid) (is_concerned slots guid) 0 (length slots) one.seat.slot other.seat.slot no_twins (omega arith) less (omega (arith, below))
         (disk_concerned i one at) (disk_concerned j other also) in
-        let same = none_map (λ (reference : ℕ). in_conflict slots guid one.seat.slot other.seat.slot (differs.Twin reference)) (same_reference (reference_at slots one.seat.slot) (reference_at slots other.seat.slot)) none in
+        let same = none_from_map (λ (reference : ℕ). in_conflict slots guid one.seat.slot other.seat.slot (differs.Twin reference)) (same_reference (reference_at slots one.seat.slot) (reference_at slots other.seat.slot)) none in
         let parts : same_reference (Some (view_of one.copy).reference) (Some (view_of other.copy).reference) ≡ None =
         sym (ap (λ (view : Option View). same_reference (option_map (λ (v : View). v.reference) view) (reference_at slots other.seat.slot)) view_one
         ∙ ap (λ (view : Option View). same_reference (Some (view_of one.copy).reference) (option_map (λ (v : View). v.reference) view)) view_other) ∙ same in

@@ -6,6 +6,9 @@ use Rattle.std.proofs.lemmas.Option.{slice_get-map}
 use Rattle.std.specs.Prelude.{option_map, slice_get, slice_set, unwrap_or}
 use Rattle.std.specs.List.{list_any}
 use Rattle.std.specs.Option.{option_map_or}
+use Rattle.std.proofs.lemmas.Map.Keys.{any_passes_from_place}
+use Rattle.ddf_lemmas.proofs.Lists.{all_fail, any_place, filter_get, filter_pass, filtered_passes, in_map, map_empty, mapped_at, set_else, some_at_place}
+use Rattle.ddf_lemmas.proofs.Options.{value_there}
 use Rattle.ddf_copy.specs.declared.copy.DiskCopy.{DiskCopy}
 use Rattle.ddf_copy.specs.declared.newest_copy.Newest.{Newest}
 use Rattle.ddf_copy.specs.declared.newest_copy.Newest.TheVariants as newests
@@ -18,7 +21,7 @@ use Rattle.ddf_group.specs.Assembled.{absent, has_reference, is_absent}
 use Rattle.ddf_group.specs.Conflicts.{is_concerned, twins}
 use Rattle.ddf_group.specs.Shown.{shown_of}
 use Rattle.ddf_group.specs.Slots.{claimed, reference_at, slot_at, view_in}
-use Rattle.ddf_rewrite.proofs.Lists.{all_at, get_map, map_get}
+use Rattle.ddf_rewrite.proofs.Lists.{all_at}
 use Rattle.ddf_seats.specs.declared.seated.Seated.{Seated}
 use Rattle.ddf_steps.specs.Committed.{slots_of}
 use Rattle.ddf_seats.specs.Group.{GroupValue}
@@ -26,19 +29,17 @@ use Rattle.ddf_assembly.specs.Group.{group_of}
 use Rattle.ddf_seats.specs.Seated.{seated, seats_in, slots_in}
 use Rattle.ddf_seats.specs.Changing.{SlotsRise}
 use Rattle.ddf_seats.proofs.CommittedSeats.{rise_differ}
-use Rattle.ddf_assembly.proofs.LeftBefore.{all_pass, kept_at, level_at, none_gone, shown_at as shown_of_slot, slots_claimed}
+use Rattle.ddf_seats.proofs.KeptSlots.{kept_rise}
+use Rattle.ddf_assembly.proofs.LeftBefore.{level_at, none_gone, shown_at as shown_of_slot, slots_claimed}
 use Rattle.ddf_recovery.proofs.LeftLists.{IsNoneOf, one_or_none}
 use Rattle.ddf_assembly.proofs.LeftMembers.{IsCurrentIn}
-use Rattle.ddf_recovery.proofs.LeftStep.{from_kept}
-use Rattle.ddf_assembly.proofs.SettledLists.{all_fail}
 use Rattle.ddf_history_steps.proofs.Slots.{slot_placed}
 use Rattle.ddf_uncut_group.specs.Settled.{IsToldByAll}
 use Rattle.ddf_uncut_group.specs.Without.{without_seat}
 use Rattle.ddf_uncut_group.proofs.SettledFound.{disks_counted, found_as}
-use Rattle.ddf_uncut_group.proofs.SettledLists.{some_there}
 use Rattle.ddf_uncut_group.proofs.SettledTelling.{AreTelling, IsTelling, found_telling, none_concerned, reads_full, twins_kept}
 use Rattle.ddf_uncut_group.proofs.UnpluggedDisks.{agree_all, apart, claim, current, disk_concerned, full, its_reference, member_place, no_twins, one_slot, shown_at}
-use Rattle.ddf_uncut_group.proofs.UnpluggedLists.{any_none, any_place, any_some, begins, kept_one, kept_rise, map_kept, set_else, set_here}
+use Rattle.ddf_uncut_group.proofs.UnpluggedLists.{any_none, begins, kept_one, map_kept, set_here}
 
 not_equal : (n m : ℕ) → not (eqb n m) ≡ true → n ≢ m
 not_equal n m kept same = false≢true (sym (ap not (eq-eqb n m same)) ∙ kept)
@@ -49,14 +50,6 @@ kept_of n m differ = by (eqb n m) refl
     by : (b : Bool) → eqb n m ≡ b → not b ≡ true
     by true e = absurd (differ (eqb-true n m e))
     by false e = refl
-
-empty_of : {X Y : Type 0} (f : X → Y) (xs : List X) → map f xs ≡ [] → xs ≡ []
-empty_of f [] h = refl
-empty_of f (x ∷ xs) h = absurd cc
-
-value_there : {X : Type 0} (test : X → Bool) (o : Option X) → option_map_or test o false ≡ true → (x : X) × (o ≡ Some x) × (test x ≡ true)
-value_there test None passes = absurd (false≢true passes)
-value_there test (Some x) passes = (x, refl, passes)
 
 module _ (group : GroupValue) (told : IsToldByAll group) (place : ℕ) (seat : Seat) (is_seat : slice_get group.seats place ≡ Some seat) where
   abbrev guid : List ℕ
@@ -79,7 +72,7 @@ module _ (group : GroupValue) (told : IsToldByAll group) (place : ℕ) (seat : S
 
   -- the disk of the seat
   own : (disk : Seated) × (slice_get (seated group) place ≡ Some disk) × (disk.seat ≡ seat)
-  own = map_get (λ (disk : Seated). disk.seat) (seated group) place seat (ap (λ (seats : List Seat). slice_get seats place) told.is_settled.are_seated ∙ is_seat)
+  own = in_map (λ (disk : Seated). disk.seat) (seated group) place seat (ap (λ (seats : List Seat). slice_get seats place) told.is_settled.are_seated ∙ is_seat)
 
   -- ---- the disks that are left
 
@@ -90,12 +83,12 @@ module _ (group : GroupValue) (told : IsToldByAll group) (place : ℕ) (seat : S
 
   pub left_is : (k : ℕ) (disk : Seated) → slice_get left k ≡ Some disk → IsLeftDisk disk
   left_is k disk at =
-      let there = from_kept keeps (seated group) k disk at in
-      let kept = all_at (λ (one : Seated). keeps one ≡ true) left k disk (all_pass keeps (seated group)) at in
+      let there = filter_get keeps (seated group) k disk at in
+      let kept = all_at (λ (one : Seated). keeps one ≡ true) left k disk (filter_pass keeps (seated group)) at in
       record { at_place = there.0; at = there.1; differs_in = not_equal disk.seat.slot seat.slot kept }
 
   pub is_left : (k : ℕ) (disk : Seated) → slice_get (seated group) k ≡ Some disk → disk.seat.slot ≢ seat.slot → (j : ℕ) × (slice_get left j ≡ Some disk)
-  is_left k disk at differ = kept_at keeps (seated group) k disk at (kept_of disk.seat.slot seat.slot differ)
+  is_left k disk at differ = filtered_passes keeps (seated group) k disk at (kept_of disk.seat.slot seat.slot differ)
 
   -- The disk on the seat's slot is its own.
   same_reference_on : (k : ℕ) (disk : Seated) → slice_get (seated group) k ≡ Some disk → disk.seat.slot ≡ seat.slot → disk.seat.reference ≡ seat.reference
@@ -146,11 +139,11 @@ module _ (group : GroupValue) (told : IsToldByAll group) (place : ℕ) (seat : S
     | inr differ ↦
         let has = told.none_beside slot one (sym (still slot differ) ∙ at) in
         let there = slot_placed (slots_of group.seats) slot has in
-        let its_seat = map_get (λ (other : Seat). other.slot) group.seats there.0 slot there.1 in
-        let disk = map_get (λ (other : Seated). other.seat) (seated group) there.0 its_seat.0 (ap (λ (seats : List Seat). slice_get seats there.0) told.is_settled.are_seated ∙ its_seat.1) in
+        let its_seat = in_map (λ (other : Seat). other.slot) group.seats there.0 slot there.1 in
+        let disk = in_map (λ (other : Seated). other.seat) (seated group) there.0 its_seat.0 (ap (λ (seats : List Seat). slice_get seats there.0) told.is_settled.are_seated ∙ its_seat.1) in
         let on_slot : disk.0.seat.slot ≡ slot = ap (λ (other : Seat). other.slot) disk.2 ∙ its_seat.2 in
         let in_left = is_left there.0 disk.0 disk.1 (λ (same : disk.0.seat.slot ≡ seat.slot). differ (sym on_slot ∙ same)) in
-        all_at (λ (n : ℕ). slot ≢ n) (slots_in left) in_left.0 slot none (get_map (λ (other : Seated). other.seat.slot) left in_left.0 disk.0 in_left.1 ∙ ap (λ (n : ℕ). Some n) on_slot) refl
+        all_at (λ (n : ℕ). slot ≢ n) (slots_in left) in_left.0 slot none (mapped_at (λ (other : Seated). other.seat.slot) left in_left.0 disk.0 in_left.1 ∙ ap (λ (n : ℕ). Some n) on_slot) refl
   ]
 
   none_else : (slot : ℕ) → IsNoneOf (slots_in left) slot → slot_at after slot ≡ Nothing
@@ -176,7 +169,7 @@ module _ (group : GroupValue) (told : IsToldByAll group) (place : ℕ) (seat : S
   concerned_before : (slot : ℕ) → is_concerned after guid slot ≡ true → (is_concerned slots guid slot ≡ true) × (reference_at after slot ≡ reference_at slots slot)
   concerned_before slot h = elim (one_or_none (slots_in left) slot) [
     | inl found ↦
-        let disk = map_get (λ (one : Seated). one.seat.slot) left found.0 slot found.1 in
+        let disk = in_map (λ (one : Seated). one.seat.slot) left found.0 slot found.1 in
         let is = left_is found.0 disk.0 disk.1 in (
           subst (λ (n : ℕ). is_concerned slots guid n ≡ true) disk.2 (disk_concerned group told is.at_place disk.0 is.at),
           subst (λ (n : ℕ). reference_at after n ≡ reference_at slots n) disk.2 (left_reference found.0 disk.0 disk.1 ∙ sym (was_reference is.at_place disk.0 is.at)),
@@ -222,7 +215,7 @@ module _ (group : GroupValue) (told : IsToldByAll group) (place : ℕ) (seat : S
       ap (λ b. not b && not (list_any (has_reference after seat.reference) (slots_in left))) entry.is_here
       ∙ ap not (any_none (has_reference after seat.reference) (slots_in left)
       (λ k slot at.
-      let disk = map_get (λ (one : Seated). one.seat.slot) left k slot at in
+      let disk = in_map (λ (one : Seated). one.seat.slot) left k slot at in
       sym (ap (λ (n : ℕ). has_reference after seat.reference n) disk.2)
       ∙ ap (λ (o : Option ℕ). option_map_or (λ one. eqb one seat.reference) o false) (left_reference k disk.0 disk.1) ∙ missing_reference k disk.0 disk.1))
 
@@ -230,12 +223,12 @@ module _ (group : GroupValue) (told : IsToldByAll group) (place : ℕ) (seat : S
   pub had_seat : (i : ℕ) (other : ℕ × Member) → slice_get group.config.members i ≡ Some other → other.1.missing ≡ false
       → (k : ℕ) × (disk : Seated) × (slice_get (seated group) k ≡ Some disk) × (disk.seat.reference ≡ other.0)
   had_seat i other at here =
-      let none = empty_of (λ (member : ℕ × Member). member.0) (filter (is_absent slots (claimed slots guid)) group.config.members) (none_gone group told.are_newest told.is_settled guid (found_as group told)) in
+      let none = map_empty (λ (member : ℕ × Member). member.0) (filter (is_absent slots (claimed slots guid)) group.config.members) (none_gone group told.are_newest told.is_settled guid (found_as group told)) in
       let fails = all_at (λ (member : ℕ × Member). is_absent slots (claimed slots guid) member ≡ false) group.config.members i other (all_fail (is_absent slots (claimed slots guid)) group.config.members none) at in
       let seated_one = any_place (has_reference slots other.0) (claimed slots guid) (seat_there other.1.missing (list_any (has_reference slots other.0) (claimed slots guid)) here fails) in
       let in_disks : slice_get (slots_in (seated group)) seated_one.0 ≡ Some seated_one.1 =
       ap (λ (l : List ℕ). slice_get l seated_one.0) (slots_claimed group told.are_newest told.is_settled guid (found_as group told)) ∙ seated_one.2 in
-      let disk = map_get (λ (one : Seated). one.seat.slot) (seated group) seated_one.0 seated_one.1 in_disks in
+      let disk = in_map (λ (one : Seated). one.seat.slot) (seated group) seated_one.0 seated_one.1 in_disks in
       let told_one = value_there (λ one. eqb one other.0) (reference_at slots seated_one.1) seated_one.3 in
       let is : Some told_one.0 ≡ Some disk.0.seat.reference = sym told_one.1 ∙ sym (ap (reference_at slots) disk.2) ∙ was_reference seated_one.0 disk.0 disk.1 in
       let number : told_one.0 ≡ disk.0.seat.reference = cc in
@@ -263,7 +256,7 @@ module _ (group : GroupValue) (told : IsToldByAll group) (place : ℕ) (seat : S
             member_place group told i entry.place other (seat.reference, entry.member) at entry_at number
         | inr differ ↦
             let in_left = is_left k disk there differ in
-            let some = any_some (has_reference after other.0) (slots_in left) in_left.0 disk.seat.slot (get_map (λ (one : Seated). one.seat.slot) left in_left.0 disk in_left.1)
+            let some = any_passes_from_place (has_reference after other.0) (slots_in left) in_left.0 disk.seat.slot (mapped_at (λ (one : Seated). one.seat.slot) left in_left.0 disk in_left.1)
             (ap (λ (o : Option ℕ). option_map_or (λ one. eqb one other.0) o false) (left_reference in_left.0 disk in_left.1) ∙ eq-eqb disk.seat.reference other.0 reference) in
             absurd (false≢true (sym none ∙ some))
       ]
@@ -282,13 +275,13 @@ module _ (group : GroupValue) (told : IsToldByAll group) (place : ℕ) (seat : S
       where
         another : (q : ℕ) → q < length (seated group) → q ≢ place → (k : ℕ) × (disk : Seated) × (slice_get left k ≡ Some disk)
         another q below differ =
-            let disk = some_there (seated group) q below in
+            let disk = some_at_place (seated group) q below in
             let own_slot : own.0.seat.slot ≡ seat.slot = ap (λ (one : Seat). one.slot) own.2 in
             let kept = is_left q disk.0 disk.1
             (λ (same : disk.0.seat.slot ≡ seat.slot).
             differ (rise_differ (seated group) (subst SlotsRise (sym told.is_settled.are_seated) told.is_settled.slots_rise) q place seat.slot
-            (get_map (λ (one : Seated). one.seat.slot) (seated group) q disk.0 disk.1 ∙ ap (λ (n : ℕ). Some n) same)
-            (get_map (λ (one : Seated). one.seat.slot) (seated group) place own.0 own.1 ∙ ap (λ (n : ℕ). Some n) own_slot))) in
+            (mapped_at (λ (one : Seated). one.seat.slot) (seated group) q disk.0 disk.1 ∙ ap (λ (n : ℕ). Some n) same)
+            (mapped_at (λ (one : Seated). one.seat.slot) (seated group) place own.0 own.1 ∙ ap (λ (n : ℕ). Some n) own_slot))) in
             (kept.0, disk.0, kept.1)
 
         by : (p : ℕ) → p ≡ place → (k : ℕ) × (disk : Seated) × (slice_get left k ≡ Some disk)

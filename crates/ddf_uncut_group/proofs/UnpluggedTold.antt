@@ -1,8 +1,9 @@
 -- A settled group of which one disk is left out, as the other disks tell it.
-use Rattle.std.proofs.Common.{◌≡◌, ◌⊎◌, ℕ, zero, suc, ◌<◌, true, false, ◌||◌, List, [], ◌∷◌, length, map, Option, Some, None, refl, ap, sym, ◌∙◌, subst, inl, inr, arith}
+use Rattle.std.proofs.Common.{◌≡◌, ◌⊎◌, ℕ, zero, suc, ◌<◌, true, false, ◌||◌, List, [], ◌∷◌, length, Option, Some, None, refl, ap, sym, ◌∙◌, subst, inl, inr, arith, map-id}
 use Rattle.std.proofs.lemmas.Bool.{eq-eqb}
 use Rattle.std.specs.Prelude.{filter_map, option_map, slice_get, slice_set}
 use Rattle.std.specs.Option.{option_and_then}
+use Rattle.ddf_lemmas.proofs.Lists.{filter_all}
 use Rattle.ddf_copy.specs.declared.copy.DiskCopy.{DiskCopy}
 use Rattle.ddf_copy.specs.declared.newest_copy.Newest.{Newest}
 use Rattle.ddf_copy.specs.declared.which.Which.{Which}
@@ -19,7 +20,6 @@ use Rattle.ddf_steps.specs.Committed.{slots_of}
 use Rattle.ddf_seats.specs.Group.{GroupValue}
 use Rattle.ddf_assembly.specs.Reading.{AreNewest}
 use Rattle.ddf_seats.specs.Seated.{seated, seated_at, seated_by, seats_in, slots_in}
-use Rattle.ddf_steps.proofs.CommittedLevels.{filter_all}
 use Rattle.ddf_seats.proofs.CommittedSeats.{seated_is}
 use Rattle.ddf_recovery.proofs.LeftLists.{one_or_none}
 use Rattle.ddf_history_steps.specs.Kept.{is_slot}
@@ -45,10 +45,6 @@ seated_again group k disk at =
     ∙ ap (λ (last : Which). Some (make_disk disk.seat disk.copy last Change)) (sym own.has_last)
     ∙ ap (λ (mode : Mode). Some (make_disk disk.seat disk.copy disk.last mode)) (sym own.has_mode)
 
-map_same : (disks : List Seated) → map (λ (disk : Seated). disk) disks ≡ disks
-map_same [] = refl
-map_same (disk ∷ disks) = ap (λ (rest : List Seated). disk ∷ rest) (map_same disks)
-
 -- ---- newest copies that can be written
 
 newest_none : (all : List (Option Newest)) (slot : ℕ) → AreNewest all → AreNewest (slice_set all slot None)
@@ -73,7 +69,7 @@ module _ (group : GroupValue) (told : IsToldByAll group) (place : ℕ) (seat : S
       let is = left_is group told place seat is_seat k disk at in
       ap (λ (found : Option (Option Newest)). option_and_then (λ one. option_and_then (seated_by disk.seat) one) found) (still group told place seat is_seat disk.seat.slot is.differs_in)
       ∙ seated_again group is.at_place disk is.at)
-      ∙ map_same kept
+      ∙ map-id kept
 
   here : (k : ℕ) (disk : Seated) → slice_get (seated without) k ≡ Some disk → slice_get kept k ≡ Some disk
   here k disk at = sym (ap (λ (disks : List Seated). slice_get disks k) seated_left) ∙ at

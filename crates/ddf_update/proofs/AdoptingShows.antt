@@ -1,6 +1,5 @@
 -- What a slot shows while it is adopted by another group.
 use Rattle.std.proofs.Common.{◌≡◌, ◌≢◌, ◌⊎◌, ℕ, ◌-◌, ◌<◌, List, Ok, Err, Some, None, refl, sym, ◌∙◌, ap, inl, inr, ⊎_elim, arith, subst}
-use Rattle.std.specs.Prelude.{Result}
 use Rattle.ddf_bytes.specs.Bytes.{bytes_at}
 use Rattle.ddf_bay.specs.State.{BayState, size_of}
 use Rattle.ddf_bay.specs.Sectors.{Image, IsLeft}
@@ -37,7 +36,7 @@ use Rattle.ddf_update.specs.Update.{AreBoth, IsAdopted, IsAdopting, IsFormerOrNe
 use Rattle.ddf_update.specs.Adopting.{IsAdoptionWritten, IsLeftTakingOver, IsTakingOver}
 use Rattle.ddf_update.proofs.Changing.{are_apart, both_are_apart, both_stand, new_copy_stands, not_last, open_is_not_whole, other_other, same_anchor}
 use Rattle.ddf_update.proofs.FoundingShows.{anchor_stands, since_weaken}
-use Rattle.ddf_copy.proofs.LastCopies.{header_is, one_group}
+use Rattle.ddf_copy.proofs.LastCopies.{header_is, one_group, ok_or}
 use Rattle.ddf_copy.proofs.Places.{alike}
 
 -- ---- a header under an anchor
@@ -58,10 +57,6 @@ pub one_kind : (size : ℕ) (sector : ℕ → List ℕ) (anchor : Header) (one o
     → (first.header.guid ≡ second.header.guid) × (first.header.geometry ≡ second.header.geometry)
 one_kind size sector anchor one other first second is also =
     (one_group size sector anchor one other first second is also, (alike size anchor sector sector one other first second is also).same_sections)
-
-ok_or : {A : Type 0} (read : Result A CopyFault) → ((value : A) × (read ≡ Ok value)) ⊎ ((fault : CopyFault) × (read ≡ Err fault))
-ok_or (Ok value) = inl (value, refl)
-ok_or (Err fault) = inr (fault, refl)
 
 -- No copy stands under the anchor of another group.
 not_read : (size : ℕ) (sector : ℕ → List ℕ) (anchor : Header) (which : Which) (reference : List ℕ) → first_difference (header_bytes anchor) reference ≡ None

@@ -12,12 +12,12 @@ use Rattle.ddf_update.specs.Group.{IsBefore}
 use Rattle.ddf_update.specs.Prepared.{IsPrepared}
 use Rattle.ddf_update.specs.Update.{IsInEither}
 
-runs_behind : (lba : ℕ) (runs : List Run) (l : ℕ) → RunsCover lba runs l → lba ≤ l
+pub runs_behind : (lba : ℕ) (runs : List Run) (l : ℕ) → RunsCover lba runs l → lba ≤ l
 runs_behind lba [] l there = absurd there
 runs_behind lba (run ∷ runs) l (inl there) = omega (arith, there.0)
 runs_behind lba (run ∷ runs) l (inr there) = runs_behind lba runs l there
 
-copy_behind : (lba : ℕ) (runs : List Run) (l : ℕ) → IsInCopy lba runs l → lba ≤ l
+pub copy_behind : (lba : ℕ) (runs : List Run) (l : ℕ) → IsInCopy lba runs l → lba ≤ l
 copy_behind lba runs l (inl here) = omega (arith, here)
 copy_behind lba runs l (inr there) = runs_behind lba runs l there
 

@@ -1,8 +1,8 @@
 -- The first copies of a new group, disk by disk.
-use Rattle.std.proofs.Common.{◌≡◌, ℕ, zero, suc, List, [], ◌∷◌, ◌++◌, length, Result, Ok, Err, Some, length-append, refl, inl, inr, ⊎_elim, arith, ◌⊎◌}
+use Rattle.std.proofs.Common.{◌≡◌, ℕ, zero, suc, List, [], ◌∷◌, ◌++◌, length, Result, Err, Some, length-append, refl, inl, inr, ⊎_elim, arith, ◌⊎◌}
 use Rattle.std.proofs.lemmas.Bool.{cases_lt}
 use Rattle.std.proofs.lemmas.Option.{slice_get_within}
-use Rattle.std.specs.Prelude.{slice_get, slice_index, IfOk, OnOk}
+use Rattle.std.specs.Prelude.{slice_get, slice_index, IfOk}
 use Rattle.ddf_bytes.specs.declared.no_memory.NoMemory.{NoMemory}
 use Rattle.ddf_bay.specs.State.{BayState}
 use Rattle.ddf_copy.specs.declared.copy.DiskCopy.{DiskCopy}
@@ -47,10 +47,6 @@ written_by result same is = rw (← same) is
 
 pub under_as : {made copy : DiskCopy} (size : ℕ) → made ≡ copy → IsUnder size (anchor_header made) made → IsUnder size (anchor_header copy) copy
 under_as size same is = rw (← same) is
-
-pub always_ok : {T E P : Type 0} (result : Result T E) → P → OnOk result P
-always_ok (Ok item) holds = holds
-always_ok (Err fault) holds = cc
 
 -- ---- the first copies on their slots
 

@@ -23,7 +23,7 @@ log_few : (geometry : Geometry) (sectors : List (List ℕ)) → length (log_run 
 log_few geometry [] = omega arith
 log_few geometry (sector ∷ sectors) = omega arith
 
-few_at : (geometry : Geometry) (raw : Raw) → length (runs_at geometry raw) ≤ 6
+pub few_at : (geometry : Geometry) (raw : Raw) → length (runs_at geometry raw) ≤ 6
 few_at geometry raw = let few = log_few geometry raw.bad_blocks in omega (arith, few)
 
 -- a copy has at most six sections that are written

@@ -1,9 +1,9 @@
 -- Two copies that lie apart, before the last sector, have room.
-use Rattle.std.proofs.Common.{◌≡◌, ◌⊎◌, ℕ, ◌+◌, ◌<◌, ◌≤◌, Bool, true, false, not, ◌&&◌, leb, ltb, List, [], ◌∷◌, None, refl, ◌∙◌, eq-eqb, inl, inr, arith}
-use Rattle.std.proofs.lemmas.Bool.{le-ltb}
-use Rattle.std.proofs.lemmas.Bool.Decides.{leb_tells}
+use Rattle.std.proofs.Common.{◌≡◌, ◌⊎◌, ℕ, ◌+◌, ◌≤◌, Bool, false, not, leb, ltb, List, [], ◌∷◌, None, refl, ◌∙◌, eq-eqb, inl, inr, arith}
+use Rattle.std.proofs.lemmas.Bool.{le-ltb, lt-leb}
 use Rattle.std.proofs.lemmas.Iterator.Adapters.{position_from-zero}
 use Rattle.std.specs.List.{AllByRecursion, list_any, position, position_from}
+use Rattle.std.proofs.Math.Bool.{and-false}
 use Rattle.ddf_header.specs.declared.geometry.Section.{Section}
 use Rattle.ddf_header.specs.Geometry.{is_absent}
 use Rattle.ddf_copy.specs.Room.{has_no_room, has_sector_of, is_out_of_room, meets_copy, room_fault, share}
@@ -16,17 +16,10 @@ IsNear sectors section = (section.length ≡ 0) ⊎ ((1 ≤ section.offset) × (
 abbrev AreApart : (sectors lba at many : ℕ) → Type 0
 AreApart sectors lba at many = (lba + sectors ≤ at) ⊎ (at + many ≤ lba)
 
-and_false : (a : Bool) → (a && false) ≡ false
-and_false true = refl
-and_false false = refl
-
-not_le : (a b : ℕ) → b < a → leb a b ≡ false
-not_le a b lt = elim (leb_tells a b) [ inl below ↦ absurd (omega (arith, below.1, lt)) | inr above ↦ above.0 ]
-
 -- runs of sectors that lie apart share none
 none_shared : (one many other more : ℕ) → (other + more ≤ one) ⊎ (one + many ≤ other) → share one many other more ≡ false
 none_shared one many other more (inl before) = rw (le-ltb one (other + more) before) refl
-none_shared one many other more (inr behind) = rw (le-ltb other (one + many) behind) (and_false (ltb one (other + more)))
+none_shared one many other more (inr behind) = rw (le-ltb other (one + many) behind) (and-false (ltb one (other + more)))
 
 -- two copies of so many sectors that lie apart, before the last sector
 pub record AreCopiesApart (sectors last own other : ℕ) : Type 0 where
@@ -38,9 +31,9 @@ module _ (sectors : ℕ) (some : 1 ≤ sectors) where
   section_apart : (lba at many : ℕ) (section : Section) → IsNear sectors section → AreApart sectors lba at many → has_sector_of lba at many section ≡ false
   section_apart lba at many section (inl absent) apart = rw (eq-eqb section.length 0 absent) refl
   section_apart lba at many section (inr near) (inl before) =
-      rw (none_shared at many (lba + section.offset) section.length (inl (omega (arith, near.1, before)))) (and_false (not (is_absent section)))
+      rw (none_shared at many (lba + section.offset) section.length (inl (omega (arith, near.1, before)))) (and-false (not (is_absent section)))
   section_apart lba at many section (inr near) (inr behind) =
-      rw (none_shared at many (lba + section.offset) section.length (inr (omega (arith, near.0, behind)))) (and_false (not (is_absent section)))
+      rw (none_shared at many (lba + section.offset) section.length (inr (omega (arith, near.0, behind)))) (and-false (not (is_absent section)))
 
   sections_apart : (lba at many : ℕ) (sections : List Section) → AllByRecursion (IsNear sectors) sections → AreApart sectors lba at many → list_any (has_sector_of lba at many) sections ≡ false
   sections_apart lba at many [] near apart = refl
@@ -58,7 +51,7 @@ module _ (sectors : ℕ) (some : 1 ≤ sectors) where
       let other_ends = le-ltb last (other + section.offset + section.length) (omega (arith, here.1, are.other_ends)) in
       let apart : AreApart sectors other (own + section.offset) section.length =
       elim are.are_apart [ inl before ↦ inl (omega (arith, before)) | inr behind ↦ inr (omega (arith, behind, here.1)) ] in
-      rw (own_ends, other_ends, copy_apart other (own + section.offset) section.length sections near apart) (and_false (not (is_absent section)))
+      rw (own_ends, other_ends, copy_apart other (own + section.offset) section.length sections near apart) (and-false (not (is_absent section)))
 
   none_out : (p : Section → Bool) (n : ℕ) (sections : List Section) → AllByRecursion (λ section. p section ≡ false) sections → position_from p n sections ≡ None
   none_out p n [] fails = refl
@@ -71,8 +64,8 @@ module _ (sectors : ℕ) (some : 1 ≤ sectors) where
   pub has_room : (last own other : ℕ) (sections : List Section) → AreCopiesApart sectors last own other → AllByRecursion (IsNear sectors) sections → room_fault last own other sections ≡ None
   unfolding room_fault has_no_room
   has_room last own other sections are near =
-      let own_before : leb last own ≡ false = not_le last own (omega (arith, are.own_ends)) in
-      let other_before : leb last other ≡ false = not_le last other (omega (arith, are.other_ends)) in
+      let own_before : leb last own ≡ false = lt-leb last own (omega (arith, are.own_ends)) in
+      let other_before : leb last other ≡ false = lt-leb last other (omega (arith, are.other_ends)) in
       let apart : AreApart sectors other own 1 = elim are.are_apart [ inl before ↦ inl before | inr behind ↦ inr (omega (arith, behind)) ] in
       let none : position (is_out_of_room last own other sections) sections ≡ None =
       position_from-zero (is_out_of_room last own other sections) sections ∙ none_out (is_out_of_room last own other sections) 0 sections (all_in_room last own other sections sections are near near) in

@@ -4,34 +4,26 @@ use Rattle.std.specs.Prelude.{slice_get}
 use Rattle.std.specs.List.{AllByRecursion}
 use Rattle.std.proofs.lemmas.List.{length-replicate}
 use Rattle.std.specs.Int.{w32}
+use Rattle.ddf_lemmas.proofs.Lists.{all_replicate, all_append}
 use Rattle.ddf_bytes.specs.declared.stamp.Stamp.{Stamp}
 use Rattle.ddf_bytes.specs.Bytes.{number_at}
-use Rattle.ddf_seal.specs.Unread.{AreBytes, Fits}
+use Rattle.ddf_seal.specs.Unread.{Fits}
+use Rattle.ddf_seal.proofs.Common.{bytes_replicate}
 use Rattle.ddf_config_records.specs.declared.slot.RecordSlot.{RecordSlot}
 use Rattle.ddf_config_records.specs.declared.layout.TheConstants.{NOTES_AT}
 use Rattle.ddf_config_records.specs.Bits.{AreBelow, IsRising}
 use Rattle.ddf_config_records.specs.NoteRecords.{CanBeNotes, all_note_fields, filling, head_fields, note_size}
 use Rattle.ddf_config_records.specs.Slots.{CanBeSlot, CanBeSlots, DoFit, DoNotesFit, FitsSlot, is_known}
 use Rattle.ddf_config_records.proofs.Bits.{length-bits_of}
-use Rattle.ddf_config_records.proofs.NoteRecords.{all-append}
 use Rattle.ddf_update.specs.declared.new_layout.NewLayout.{NewLayout}
 use Rattle.ddf_update.specs.declared.new_layout.NewLayout.TheVariants.{Large, Small}
 use Rattle.ddf_update.specs.NewLayouts.{members_of, record_length_of, records_sectors, slots_of}
 use Rattle.ddf_update.specs.NewCopies.{new_geometry, new_notes, new_slots, no_note, unused_slot}
 
-all_replicate : {X : Type 0} (P : X → Type 0) (count : ℕ) (x : X) → P x → AllByRecursion P (replicate count x)
-all_replicate P zero x h = tt
-all_replicate P (suc count) x h = (h, all_replicate P count x h)
-
 get_replicate : {X : Type 0} (count index : ℕ) (x y : X) → slice_get (replicate count x) index ≡ Some y → x ≡ y
 get_replicate zero index x y h = absurd cc
 get_replicate (suc count) zero x y h = cc
 get_replicate (suc count) (suc index) x y h = get_replicate count index x y h
-
-bytes_replicate : (count : ℕ) → AreBytes (replicate count 255)
-bytes_replicate zero i = omega arith
-bytes_replicate (suc count) zero = omega arith
-bytes_replicate (suc count) (suc i) = bytes_replicate count i
 
 -- ---- the notes
 
@@ -51,18 +43,18 @@ can_be_notes Small stamp size = record {
   room = omega arith;
   rising = all_replicate (λ note. IsRising 16 note.out) 16 no_note (none_rises Small);
   fields_fit =
-      all-append Fits (head_fields 16 (new_notes 16 stamp)) (all_note_fields 16 NOTES_AT (replicate 16 no_note) ++ filling 16 1024 16 ∷ [])
+      all_append Fits (head_fields 16 (new_notes 16 stamp)) (all_note_fields 16 NOTES_AT (replicate 16 no_note) ++ filling 16 1024 16 ∷ [])
       (refl, (refl, (omega arith, (omega arith, (omega arith, (refl, tt))))))
-      (all-append Fits (all_note_fields 16 NOTES_AT (replicate 16 no_note)) (filling 16 1024 16 ∷ []) (notes_fit_from Small NOTES_AT 16) (length-replicate {A = ℕ} 672 255, tt));
+      (all_append Fits (all_note_fields 16 NOTES_AT (replicate 16 no_note)) (filling 16 1024 16 ∷ []) (notes_fit_from Small NOTES_AT 16) (length-replicate {A = ℕ} 672 255, tt));
 }
 can_be_notes Large stamp size = record {
   counted = refl;
   room = omega arith;
   rising = all_replicate (λ note. IsRising 64 note.out) 60 no_note (none_rises Large);
   fields_fit =
-      all-append Fits (head_fields 64 (new_notes 60 stamp)) (all_note_fields 64 NOTES_AT (replicate 60 no_note) ++ filling 64 1536 60 ∷ [])
+      all_append Fits (head_fields 64 (new_notes 60 stamp)) (all_note_fields 64 NOTES_AT (replicate 60 no_note) ++ filling 64 1536 60 ∷ [])
       (refl, (refl, (omega arith, (omega arith, (omega arith, (refl, tt))))))
-      (all-append Fits (all_note_fields 64 NOTES_AT (replicate 60 no_note)) (filling 64 1536 60 ∷ []) (notes_fit_from Large NOTES_AT 60) (length-replicate {A = ℕ} 32 255, tt));
+      (all_append Fits (all_note_fields 64 NOTES_AT (replicate 60 no_note)) (filling 64 1536 60 ∷ []) (notes_fit_from Large NOTES_AT 60) (length-replicate {A = ℕ} 32 255, tt));
 }
 
 notes_do_fit : (layout : NewLayout) (stamp : Stamp) (size : ℕ) → DoNotesFit (new_geometry layout size) (new_notes (slots_of layout) stamp)

@@ -17,19 +17,17 @@ use Rattle.ddf_config.specs.ElementValue.{ElementValue as ElementPlan}
 use Rattle.ddf_config.specs.declared.array.Array.{Array}
 use Rattle.ddf_config.specs.Configuration.{Configuration}
 use Rattle.std.specs.Cmp.Lexicographic.{pointwise}
+use Rattle.ddf_lemmas.proofs.Lists.{all_both, all_weaken, some_at_place}
+use Rattle.ddf_lemmas.proofs.Options.{none_from_is_none, some_from_is_some}
 use Rattle.ddf_view.specs.View.{View, HeldRecord, is_element, is_missing, find_held, find_note}
 use Rattle.ddf_view.specs.Reading.{elements_in, are_noted, plan_of, element_in, naming_record, count_in, secondary_in, array_in, records_of, is_associated, is_dedicated, dedicated_or_not, spare_in, spare_of_kind, member_in, read}
 use Rattle.ddf_view.specs.Shows.{same_flag, same_plan, gives_member, gives_array, gives_element, gives_if_held, least_element, names_numbers, gives_numbers, gives_elements, shows, holds, holds_all, gives_spare, shows_fully}
 use Rattle.ddf_view.specs.Readable.{IsReadable, AreReadable, HasNotes}
-use Rattle.ddf_view.proofs.Tests.{same_bytes, and_four, and_five, each_passes, swap_all, all_map, all_both, map_matches, map_matches_both}
+use Rattle.ddf_view.proofs.Tests.{same_bytes, and_four, and_five, each_passes, swap_all, map_matches, map_matches_both}
 use Rattle.ddf_view.proofs.Shown.{flag_same, plan_same, spare_same}
-use Rattle.ddf_view.proofs.Finds.{find_has, note_found, none_in_all, list_all_at, least_from, filter_same, filter_map_same, place_within, place_there}
+use Rattle.ddf_view.proofs.Finds.{find_has, note_found, none_in_all, list_all_at, least_from, filter_same, filter_map_same, place_within}
 
 -- ---- one element of one view
-
-none_of : {X : Type 0} (o : Option X) → is_none o ≡ true → o ≡ None
-none_of None h = refl
-none_of (Some x) h = absurd (false≢true h)
 
 -- a record isn't held of an element that is None
 none_held : (o : Option HeldRecord) → option_map_or (λ held. gives_element held None) o true ≡ true → o ≡ None
@@ -76,7 +74,7 @@ same_held entry view views gives has others i plan at = go (find_held entry.0 i 
     go : (o : Option HeldRecord) → find_held entry.0 i view.elements ≡ o → (plan : Option ElementPlan) → slice_get entry.1.elements i ≡ Some plan → find_held entry.0 i (elements_in (view ∷ views)) ≡ find_held entry.0 i view.elements
     go (Some held) e plan at = append_first entry.0 i view.elements (elements_in views) held e ∙ sym e
     go None e None at =
-        let all = all_map (Gives entry) (λ one. find_held entry.0 i one.elements ≡ None) (λ one given. none_at entry one i given at) views others in
+        let all = all_weaken (Gives entry) (λ one. find_held entry.0 i one.elements ≡ None) (λ one given. none_at entry one i given at) views others in
         append_second entry.0 i view.elements (elements_in views) e (none_in_all entry.0 i views all) ∙ sym e
     go None e (Some plan) at =
         let there : is_some (find_held entry.0 i view.elements) ≡ true = held_at entry view i (Some plan) has at in
@@ -110,15 +108,11 @@ no_records : (entry : List ℕ × Array) (view : View) → Gives entry view → 
 no_records entry view gives least =
     let parts = and_parts (gives_numbers view.elements entry) (list_all (gives_if_held view.elements entry.0) (enumerate_from 0 entry.1.elements)) gives in
     let none : is_none (naming_record view.elements entry.0) ≡ true = rw least at parts.0 in
-    none_of (naming_record view.elements entry.0) none
+    none_from_is_none (naming_record view.elements entry.0) none
 
 record_is : (elements : List HeldRecord) (array : List ℕ) → naming_record elements array ≡ first_of (map (λ index. find_held array index elements) (range_with_len 0 16))
 unfolding naming_record
 record_is elements array = refl
-
-some_there : (o : Option HeldRecord) → is_some o ≡ true → (held : HeldRecord) × (o ≡ Some held)
-some_there None h = absurd (false≢true h)
-some_there (Some held) h = (held, refl)
 
 not_none : (plan : Option ElementPlan) (b : Bool) → is_some plan ≡ true → (is_none plan || b) ≡ true → b ≡ true
 not_none None b h k = absurd (false≢true h)
@@ -132,7 +126,7 @@ named_some entry view views can gives has others pair least =
     let is = found.1 in
     let within : j < 16 = omega (arith, place_within entry.1.elements j pair.1 is.at, can.few) in
     let place : pair.0 ≡ j = is.place ∙ omega arith in
-    let there = some_there (find_held entry.0 j view.elements) (not_none pair.1 (is_some (find_held entry.0 j view.elements)) is.there (held_at entry view j pair.1 has is.at)) in
+    let there = some_from_is_some (find_held entry.0 j view.elements) (not_none pair.1 (is_some (find_held entry.0 j view.elements)) is.there (held_at entry view j pair.1 has is.at)) in
     let held = there.0 in
     let all = elements_in (view ∷ views) in
     let here : find_held entry.0 j all ≡ Some held = same_held entry view views gives has others j pair.1 is.at ∙ there.1 in
@@ -154,7 +148,7 @@ named_none entry view views can gives others least =
     let all = elements_in (view ∷ views) in
     let none = none_first (λ i. find_held entry.0 i all) 16 (λ i lt.
     append_second entry.0 i view.elements (elements_in views) (none_below entry view gives least i lt)
-    (none_in_all entry.0 i views (all_map (Gives entry) (λ one. find_held entry.0 i one.elements ≡ None) (λ one given. none_below entry one given least i lt) views others))) in
+    (none_in_all entry.0 i views (all_weaken (Gives entry) (λ one. find_held entry.0 i one.elements ≡ None) (λ one given. none_below entry one given least i lt) views others))) in
     named_by_none entry all (record_is all entry.0 ∙ none) (can.alone least) (can.plain least)
 
 named : (entry : List ℕ × Array) (view : View) (views : List View) → IsReadable entry.1 → Gives entry view → Holds entry view → AllByRecursion (Gives entry) views → IsNamed entry (elements_in (view ∷ views))
@@ -165,10 +159,6 @@ named entry view views can gives has others = go (least_element entry.1.elements
     go None e = named_none entry view views can gives others e
 
 -- ---- the elements of an array
-
-note_there : (o : Option SlotNote) → is_some o ≡ true → (note : SlotNote) × (o ≡ Some note)
-note_there None h = absurd (false≢true h)
-note_there (Some note) h = (note, refl)
 
 -- with a note the states of the disks don't count
 plan_noted : (disks : List DiskEntry) (note : SlotNote) (held : HeldRecord) → held.note ≡ Some note → (plan : ElementPlan) → gives_element held (Some plan) ≡ true → plan_of disks (Some note) held.element ≡ plan
@@ -184,9 +174,9 @@ element_read disks entry view views noted gives has others i None at =
     ap (λ o. option_map (λ held. plan_of disks (find_note entry.0 i (elements_in (view ∷ views))) held.element) o) none
 element_read disks entry view views noted gives has others i (Some plan) at =
     let all = elements_in (view ∷ views) in
-    let there = some_there (find_held entry.0 i view.elements) (held_at entry view i (Some plan) has at) in
+    let there = some_from_is_some (find_held entry.0 i view.elements) (held_at entry view i (Some plan) has at) in
     let held = there.0 in
-    let note = note_there held.note (find_has (λ one. is_some one.note ≡ true) (is_element entry.0 i) view.elements held noted there.1) in
+    let note = some_from_is_some held.note (find_has (λ one. is_some one.note ≡ true) (is_element entry.0 i) view.elements held noted there.1) in
     let found : find_held entry.0 i all ≡ Some held = same_held entry view views gives has others i (Some plan) at ∙ there.1 in
     let noted_is : find_note entry.0 i all ≡ Some note.0 = note_found entry.0 i view.elements (elements_in views) held note.0 there.1 note.1 in
     let given : gives_element held (Some plan) ≡ true = rw there.1 at (given_at entry view i (Some plan) gives at) in
@@ -195,7 +185,7 @@ element_read disks entry view views noted gives has others i (Some plan) at =
     ∙ ap (λ o. Some (plan_of disks o held.element)) noted_is
     ∙ ap (λ (p : ElementPlan). Some p) is
 
-make_array : (name : List ℕ) (number secondary : ℕ) (elements : List (Option ElementPlan)) (state init : ℕ) → Array
+unfoldable pub make_array : (name : List ℕ) (number secondary : ℕ) (elements : List (Option ElementPlan)) (state init : ℕ) → Array
 make_array name number secondary elements state init = record { name = name; number = number; secondary = secondary; elements = elements; state = state; init = init }
 
 make_pair : List ℕ → Array → List ℕ × Array
@@ -238,7 +228,7 @@ records_read entry view views can gives has others =
     let numbers = named entry view views can gives has others in
     ap (λ (n : ℕ). filter_map (λ i. find_held entry.0 i all) (range_with_len 0 n)) numbers.count
     ∙ filter_map_same (λ i. find_held entry.0 i all) (λ i. find_held entry.0 i view.elements) (length entry.1.elements)
-    (λ i lt. let there = place_there entry.1.elements i lt in same_held entry view views gives has others i there.0 there.1)
+    (λ i lt. let there = some_at_place entry.1.elements i lt in same_held entry view views gives has others i there.0 there.1)
 
 -- the same records in all views as in the first alone
 records_same : (entry : List ℕ × Array) (view : View) (views : List View) → IsReadable entry.1 → Gives entry view → Holds entry view → AllByRecursion (Gives entry) views
@@ -288,7 +278,7 @@ spare_read config view views disk noted arrays told =
     (λ row entry is tells. dedicated_same entry view views disk.reference row noted tells.can tells.gives tells.has tells.others is) view.arrays config.arrays arrays told) in
     ap (λ (rows : List ArrayEntry). spare_of_kind disk.kind.0 (dedicated_or_not (map (λ row. row.guid) rows))) same
 
-make_member : (guid : List ℕ) (size : ℕ) (missing : Bool) (spare : SpareUse) → Member
+unfoldable pub make_member : (guid : List ℕ) (size : ℕ) (missing : Bool) (spare : SpareUse) → Member
 make_member guid size missing spare = record { guid = guid; size = size; missing = missing; spare = spare }
 
 make_entry : ℕ → Member → ℕ × Member
@@ -343,16 +333,16 @@ told_from : (config : Configuration) (view : View) (views : List View) → AreRe
 told_from config view views can fully others =
     let gives = each_passes (gives_elements view.elements) config.arrays (shown_from config view fully.shown).elements in
     let has = each_passes (holds_all view.elements) config.arrays fully.holds in
-    let each = all_map (λ one. shows config one ≡ true) (λ one. AllByRecursion (λ entry. Gives entry one) config.arrays)
+    let each = all_weaken (λ one. shows config one ≡ true) (λ one. AllByRecursion (λ entry. Gives entry one) config.arrays)
     (λ one shown. each_passes (gives_elements one.elements) config.arrays (shown_from config one shown).elements) views others in
     let rest = swap_all (λ one entry. Gives entry one) views config.arrays each in
     let three = all_both (λ entry. Gives entry view × Holds entry view) (λ entry. AllByRecursion (λ one. Gives entry one) views) config.arrays
     (all_both (λ entry. Gives entry view) (λ entry. Holds entry view) config.arrays gives has) rest in
-    all_map (λ entry. IsReadable entry.1 × ((Gives entry view × Holds entry view) × AllByRecursion (λ one. Gives entry one) views)) (AreTold view views)
+    all_weaken (λ entry. IsReadable entry.1 × ((Gives entry view × Holds entry view) × AllByRecursion (λ one. Gives entry one) views)) (AreTold view views)
     (λ entry h. record { can = h.0; gives = h.1.0.0; has = h.1.0.1; others = h.1.1 }) config.arrays
     (all_both (λ entry. IsReadable entry.1) (λ entry. (Gives entry view × Holds entry view) × AllByRecursion (λ one. Gives entry one) views) config.arrays can three)
 
-make_config : (group : List ℕ) (sequence : ℕ) (members : List (ℕ × Member)) (arrays : List (List ℕ × Array)) → Configuration
+unfoldable pub make_config : (group : List ℕ) (sequence : ℕ) (members : List (ℕ × Member)) (arrays : List (List ℕ × Array)) → Configuration
 make_config group sequence members arrays = record { group = group; sequence = sequence; members = members; arrays = arrays }
 
 -- Views of which the first shows a configuration fully, and the others show it, give it together.

@@ -1,13 +1,15 @@
 -- Copies that are alike agree in pairs.
 use Rattle.std.proofs.Common.{◌≡◌, ℕ, ◌+◌, Bool, true, false, not, ◌&&◌, ◌||◌, cond, eqb, List, [], ◌∷◌, ◌++◌, map, Option, Some, None, refl, ap, sym, ◌∙◌, subst}
-use Rattle.std.proofs.lemmas.Bool.{and_from, and_parts, eqb-true, eq-eqb, false≢true}
-use Rattle.std.specs.Prelude.{filter, find, is_none, slice_get}
+use Rattle.std.proofs.lemmas.Bool.{and_from, and_parts, eqb-true, eq-eqb, false≢true, cond-false, not-false}
+use Rattle.std.specs.Prelude.{find, is_none, slice_get}
 use Rattle.std.specs.List.{AllByRecursion, enumerate_from, list_all}
 use Rattle.std.specs.Option.{option_eq}
 use Rattle.std.specs.Ordering.{nat_cmp}
 use Rattle.std.specs.declared.cmp.Ordering.{Ordering}
 use Rattle.std.specs.Str.{bytes_eq}
 use Rattle.std.specs.Cmp.Lexicographic.{pointwise, slice_cmp}
+use Rattle.ddf_lemmas.proofs.Lists.{all_fail, all_weaken, bytes_same, filter_none}
+use Rattle.ddf_lemmas.proofs.Tests.{five_from}
 use Rattle.ddf_tables.specs.declared.disks.DiskEntry.{DiskEntry}
 use Rattle.ddf_tables.specs.declared.arrays.ArrayEntry.{ArrayEntry}
 use Rattle.ddf_config_records.specs.declared.notes.SlotNote.{SlotNote}
@@ -19,9 +21,7 @@ use Rattle.ddf_view.specs.Reading.{elements_in, plan_of, position_of, row_of}
 use Rattle.ddf_view.specs.Shows.{same_flag, same_place, same_plan, same_position}
 use Rattle.ddf_view.specs.Differ.{array_differs, difference, differing_arrays, differing_disks, disk_differs, element_differs, held_differ, key_of, least, numbered_array, numbered_disk, same_array, same_disk, same_held, same_member_place, same_notes, same_record, told_kind}
 use Rattle.ddf_view.specs.Alike.{NoneDiffers, alike, are_alike, has_same_tables, is_as_first, is_like, like_first, same_note, same_noting}
-use Rattle.ddf_view.proofs.Finds.{when_false, when_true}
-use Rattle.ddf_view.proofs.Rows.{none_left}
-use Rattle.ddf_view.proofs.Tests.{all_map, and_five, and_four, bytes_same, each_passes, same_bytes}
+use Rattle.ddf_view.proofs.Tests.{and_five, and_four, each_passes, same_bytes}
 
 -- ---- tests that things pass which are like a third
 
@@ -45,11 +45,6 @@ each_carried same carried (first ∷ firsts) (one ∷ ones) (other ∷ others) h
     let y = and_parts (same first other) (pointwise same firsts others) k in
     and_from (same one other) (pointwise same ones others) (carried first one other x.0 y.0) (each_carried same carried firsts ones others x.1 y.1)
 
--- what isn't false is true
-not_false : (b : Bool) → not b ≡ false → b ≡ true
-not_false true h = refl
-not_false false h = absurd (false≢true (sym h))
-
 -- two that are there, or none
 option_carried : {X : Type 0} (same : X → X → Bool) → ((first one other : X) → same first one ≡ true → same first other ≡ true → same one other ≡ true)
     → (o p q : Option X) → not (option_eq same o p) ≡ false → not (option_eq same o q) ≡ false → not (option_eq same p q) ≡ false
@@ -57,13 +52,9 @@ option_carried same carried None None q h k = k
 option_carried same carried None (Some one) q h k = absurd (false≢true (sym h))
 option_carried same carried (Some first) None q h k = absurd (false≢true (sym h))
 option_carried same carried (Some first) (Some one) None h k = absurd (false≢true (sym k))
-option_carried same carried (Some first) (Some one) (Some other) h k = ap not (carried first one other (not_false (same first one) h) (not_false (same first other) k))
+option_carried same carried (Some first) (Some one) (Some other) h k = ap not (carried first one other (not-false (same first one) h) (not-false (same first other) k))
 
 -- ---- disks, arrays and records that are like a third
-
--- five tests
-five_from : (a b c d e : Bool) → a ≡ true → b ≡ true → c ≡ true → d ≡ true → e ≡ true → (a && b && c && d && e) ≡ true
-five_from a b c d e ha hb hc hd he = and_from (a && b && c && d) e (and_from (a && b && c) d (and_from (a && b) c (and_from a b ha hb) hc) hd) he
 
 disk_carried : (first one other : ℕ × DiskEntry) → same_disk first one ≡ true → same_disk first other ≡ true → same_disk one other ≡ true
 disk_carried first one other h k =
@@ -190,7 +181,7 @@ note_carried first one other h k =
 
 -- ---- records that are alike are the same
 
-flag_again : (b : Bool) → same_flag b b ≡ true
+pub flag_again : (b : Bool) → same_flag b b ≡ true
 flag_again true = refl
 flag_again false = refl
 
@@ -275,7 +266,7 @@ key_passes p array index (x ∷ xs) held h all =
         let guid : x.element.array ≡ array = same_bytes x.element.array array both.0 in
         let place : x.element.index ≡ index = eqb-true x.element.index index both.1 in
         subst (λ (a : List ℕ). p (a, index) ≡ true) guid (subst (λ (i : ℕ). p (x.element.array, i) ≡ true) place here)
-    go here later false e = later (sym (when_false (is_element array index x) (Some x) (find_held array index xs) e) ∙ h)
+    go here later false e = later (sym (cond-false (is_element array index x) (Some x) (find_held array index xs) e) ∙ h)
 
 like_none : (o : Option HeldRecord) → is_like o None ≡ true
 like_none None = refl
@@ -295,15 +286,6 @@ each_like all own h array index = go (find_held array index own) refl
 none_least : {X : Type 0} (compare : X → X → Ordering) (items : List X) → is_none (least compare items) ≡ true → items ≡ []
 none_least compare [] h = refl
 none_least compare (item ∷ items) h = absurd (false≢true h)
-
--- where none is left none passes
-all_fail : {X : Type 0} (p : X → Bool) (xs : List X) → filter p xs ≡ [] → AllByRecursion (λ x. p x ≡ false) xs
-all_fail p [] h = tt
-all_fail p (x ∷ xs) h = go (all_fail p xs) (p x) refl
-  where
-    go : (filter p xs ≡ [] → AllByRecursion (λ y. p y ≡ false) xs) → (b : Bool) → p x ≡ b → AllByRecursion (λ y. p y ≡ false) (x ∷ xs)
-    go later true e = let got : (x ∷ filter p xs) ≡ [] = sym (when_true (p x) (x ∷ filter p xs) (filter p xs) e) ∙ h in absurd cc
-    go later false e = (e, later (sym (when_false (p x) (x ∷ filter p xs) (filter p xs) e) ∙ h))
 
 all_parts : {X Y : Type 0} (P : Y → Type 0) (f : X → Y) (xs ys : List X) → AllByRecursion P (map f (xs ++ ys)) → AllByRecursion P (map f xs) × AllByRecursion P (map f ys)
 all_parts P f [] ys h = (tt, h)
@@ -325,7 +307,7 @@ name_passes {X = X} P name eq is key n (x ∷ xs) pair h all = go (λ found. nam
   where
     go : (named_at name eq key (n + 1) xs ≡ Some pair → P key) → (b : Bool) → eq (name x) key ≡ b → P key
     go later true e = subst P (is (name x) key e) all.0
-    go later false e = let first : ℕ × X = (n, x) in later (sym (when_false (eq (name x) key) (Some first) (named_at name eq key (n + 1) xs) e) ∙ h)
+    go later false e = let first : ℕ × X = (n, x) in later (sym (cond-false (eq (name x) key) (Some first) (named_at name eq key (n + 1) xs) e) ∙ h)
 
 -- Items that are alike for each name that there is are alike for every one.
 each_alike : {K X : Type 0} (same : ℕ × X → ℕ × X → Bool) (name : X → K) (eq : K → K → Bool) → ((a b : K) → eq a b ≡ true → a ≡ b) → (one other : List X)
@@ -357,18 +339,18 @@ unfolding difference
 pair_agrees first all one other h k =
     let x = and_parts (has_same_tables first one) (list_all (like_first all one.elements) (map key_of one.elements)) h in
     let y = and_parts (has_same_tables first other) (list_all (like_first all other.elements) (map key_of other.elements)) k in
-    let disks = none_left (disk_differs one.disks other.disks) (map (λ disk. disk.reference) (one.disks ++ other.disks))
+    let disks = filter_none (disk_differs one.disks other.disks) (map (λ disk. disk.reference) (one.disks ++ other.disks))
     (λ reference. option_carried same_disk disk_carried (numbered_disk reference first.disks) (numbered_disk reference one.disks) (numbered_disk reference other.disks) (disks_alike first one x.0 reference) (disks_alike first other y.0 reference)) in
-    let arrays = none_left (array_differs one.arrays other.arrays) (map (λ entry. entry.guid) (one.arrays ++ other.arrays))
+    let arrays = filter_none (array_differs one.arrays other.arrays) (map (λ entry. entry.guid) (one.arrays ++ other.arrays))
     (λ guid. option_carried same_array array_carried (numbered_array guid first.arrays) (numbered_array guid one.arrays) (numbered_array guid other.arrays) (arrays_alike first one x.0 guid) (arrays_alike first other y.0 guid)) in
-    let elements = none_left (element_differs one.elements other.elements) (map key_of one.elements)
+    let elements = filter_none (element_differs one.elements other.elements) (map key_of one.elements)
     (λ key. pair_alike (find_held key.0 key.1 all) (find_held key.0 key.1 one.elements) (find_held key.0 key.1 other.elements) (each_like all one.elements x.1 key.0 key.1) (each_like all other.elements y.1 key.0 key.1)) in
     rw (disks, arrays, elements) refl
 
 none_differs : (first : View) (all : List HeldRecord) (views : List View) → AllByRecursion (λ view. is_as_first first all view ≡ true) views → NoneDiffers views
 none_differs first all [] h = tt
 none_differs first all (one ∷ views) h = (
-  all_map (λ other. is_as_first first all other ≡ true) (λ other. difference one other ≡ None) (λ other same. pair_agrees first all one other h.0 same) views h.1,
+  all_weaken (λ other. is_as_first first all other ≡ true) (λ other. difference one other ≡ None) (λ other same. pair_agrees first all one other h.0 same) views h.1,
   none_differs first all views h.1,
 )
 

@@ -1,20 +1,16 @@
 -- Records in lists of records, one after another.
-use Rattle.std.proofs.Common.{◌≡◌, ℕ, zero, suc, ◌+◌, ◌<◌, Bool, true, false, cond, List, [], ◌∷◌, ◌++◌, length, Option, Some, None, refl, ap, sym, ◌∙◌, subst, arith}
-use Rattle.std.proofs.lemmas.Bool.{and_parts, false≢true}
+use Rattle.std.proofs.Common.{◌≡◌, ℕ, zero, suc, ◌+◌, ◌<◌, Bool, true, false, List, [], ◌∷◌, ◌++◌, length, Option, Some, None, refl, ap, sym, ◌∙◌, subst, arith}
+use Rattle.std.proofs.lemmas.Bool.{and_parts, cond-false, cond-true}
 use Rattle.std.proofs.lemmas.List.Folds.{find-append}
 use Rattle.std.specs.Prelude.{slice_get, filter, filter_map, find, is_some}
 use Rattle.std.specs.Option.{option_or}
 use Rattle.std.specs.List.{AllByRecursion, enumerate_from, list_all, range_with_len}
+use Rattle.std.proofs.lemmas.Option.{slice_get_within}
+use Rattle.ddf_lemmas.proofs.Options.{none_from_not_some}
 use Rattle.ddf_config_records.specs.declared.notes.SlotNote.{SlotNote}
 use Rattle.ddf_config.specs.ElementValue.{ElementValue as ElementPlan}
 use Rattle.ddf_view.specs.View.{View, HeldRecord, is_element, find_held, find_note}
 use Rattle.ddf_view.specs.Reading.{elements_in}
-
-pub when_true : {X : Type 0} (b : Bool) (x y : X) → b ≡ true → cond b x y ≡ x
-when_true b x y h = ap (λ t. cond t x y) h
-
-pub when_false : {X : Type 0} (b : Bool) (x y : X) → b ≡ false → cond b x y ≡ y
-when_false b x y h = ap (λ t. cond t x y) h
 
 -- what is found has what each has
 pub find_has : {X : Type 0} (P : X → Type 0) (t : X → Bool) (xs : List X) (x : X) → AllByRecursion P xs → find t xs ≡ Some x → P x
@@ -22,8 +18,8 @@ find_has P t [] x all h = absurd cc
 find_has P t (y ∷ ys) x all h = go (find_has P t ys x all.1) (t y) refl
   where
     go : (find t ys ≡ Some x → P x) → (b : Bool) → t y ≡ b → P x
-    go later true e = let same : y ≡ x = (let got : Some y ≡ Some x = sym (when_true (t y) (Some y) (find t ys) e) ∙ h in cc) in subst P same all.0
-    go later false e = later (sym (when_false (t y) (Some y) (find t ys) e) ∙ h)
+    go later true e = let same : y ≡ x = (let got : Some y ≡ Some x = sym (cond-true (t y) (Some y) (find t ys) e) ∙ h in cc) in subst P same all.0
+    go later false e = later (sym (cond-false (t y) (Some y) (find t ys) e) ∙ h)
 
 -- the note of the first record is the first note
 pub note_found : (array : List ℕ) (index : ℕ) (xs ys : List HeldRecord) (held : HeldRecord) (note : SlotNote) → find_held array index xs ≡ Some held → held.note ≡ Some note
@@ -33,12 +29,12 @@ note_found array index (x ∷ xs) ys held note h n = go (λ found. note_found ar
   where
     go : (find_held array index xs ≡ Some held → find_note array index (xs ++ ys) ≡ Some note) → (b : Bool) → is_element array index x ≡ b → find_note array index ((x ∷ xs) ++ ys) ≡ Some note
     go later true e =
-        let got : Some x ≡ Some held = sym (when_true (is_element array index x) (Some x) (find_held array index xs) e) ∙ h in
+        let got : Some x ≡ Some held = sym (cond-true (is_element array index x) (Some x) (find_held array index xs) e) ∙ h in
         let same : x ≡ held = cc in
         let has : x.note ≡ Some note = ap (λ (one : HeldRecord). one.note) same ∙ n in
         rw (e, has) refl
     go later false e =
-        let rest = later (sym (when_false (is_element array index x) (Some x) (find_held array index xs) e) ∙ h) in
+        let rest = later (sym (cond-false (is_element array index x) (Some x) (find_held array index xs) e) ∙ h) in
         rw e rest
 
 -- none in any is none in all
@@ -71,10 +67,6 @@ pub record IsLeast (k : ℕ) (plans : List (Option ElementPlan)) (pair : ℕ × 
   pub there : is_some pair.1 ≡ true
   pub others : (i : ℕ) → i < j → slice_get plans i ≡ Some None
 
-none_is : (o : Option ElementPlan) → is_some o ≡ false → o ≡ None
-none_is None h = refl
-none_is (Some x) h = absurd (false≢true (sym h))
-
 pub least_from : (k : ℕ) (plans : List (Option ElementPlan)) (pair : ℕ × Option ElementPlan) → find (λ one. is_some one.1) (enumerate_from k plans) ≡ Some pair → (j : ℕ) × IsLeast k plans pair j
 least_from k [] pair h = absurd cc
 least_from k (plan ∷ plans) pair h = go (least_from (k + 1) plans pair) (is_some plan) refl
@@ -82,19 +74,19 @@ least_from k (plan ∷ plans) pair h = go (least_from (k + 1) plans pair) (is_so
     go : (find (λ one. is_some one.1) (enumerate_from (k + 1) plans) ≡ Some pair → (j : ℕ) × IsLeast (k + 1) plans pair j) → (b : Bool) → is_some plan ≡ b → (j : ℕ) × IsLeast k (plan ∷ plans) pair j
     go later true e =
         let first : ℕ × Option ElementPlan = (k, plan) in
-        let got : Some first ≡ Some pair = sym (when_true (is_some plan) (Some first) (find (λ one. is_some one.1) (enumerate_from (k + 1) plans)) e) ∙ h in
+        let got : Some first ≡ Some pair = sym (cond-true (is_some plan) (Some first) (find (λ one. is_some one.1) (enumerate_from (k + 1) plans)) e) ∙ h in
         let same : first ≡ pair = cc in
         let place : pair.0 ≡ k + 0 = sym (ap (λ (p : ℕ × Option ElementPlan). p.0) same) ∙ omega arith in
         let is : plan ≡ pair.1 = ap (λ (p : ℕ × Option ElementPlan). p.1) same in
         (0, record { place = place; at = ap (λ (o : Option ElementPlan). Some o) is; there = sym (ap is_some is) ∙ e; others = λ i lt. absurd (omega (arith, lt)) })
     go later false e =
         let first : ℕ × Option ElementPlan = (k, plan) in
-        let rest = later (sym (when_false (is_some plan) (Some first) (find (λ one. is_some one.1) (enumerate_from (k + 1) plans)) e) ∙ h) in
+        let rest = later (sym (cond-false (is_some plan) (Some first) (find (λ one. is_some one.1) (enumerate_from (k + 1) plans)) e) ∙ h) in
         let is = rest.1 in
         (suc rest.0, record { place = is.place ∙ omega arith; at = is.at; there = is.there; others = λ i lt. other rest.0 is.others i lt })
       where
         other : (j : ℕ) → ((i : ℕ) → i < j → slice_get plans i ≡ Some None) → (i : ℕ) → i < suc j → slice_get (plan ∷ plans) i ≡ Some None
-        other j others zero lt = ap (λ (o : Option ElementPlan). Some o) (none_is plan e)
+        other j others zero lt = ap (λ (o : Option ElementPlan). Some o) (none_from_not_some plan e)
         other j others (suc i) lt = others i (omega (arith, lt))
 
 -- ---- lists of which each item is treated alike
@@ -114,15 +106,5 @@ filter_map_from f g k (suc n) h =
 pub filter_map_same : {Y : Type 0} (f g : ℕ → Option Y) (n : ℕ) → ((i : ℕ) → i < n → f i ≡ g i) → filter_map f (range_with_len 0 n) ≡ filter_map g (range_with_len 0 n)
 filter_map_same f g n h = filter_map_from f g 0 n (λ i lt. let here : 0 + i ≡ i = omega arith in ap f here ∙ h i lt ∙ sym (ap g here))
 
-get_within : {X : Type 0} (xs : List X) (i : ℕ) (x : X) → slice_get xs i ≡ Some x → i < length xs
-get_within [] i x h = absurd cc
-get_within (y ∷ ys) zero x h = omega arith
-get_within (y ∷ ys) (suc i) x h = let rest = get_within ys i x h in omega (arith, rest)
-
 pub place_within : {X : Type 0} (xs : List X) (i : ℕ) (x : X) → slice_get xs i ≡ Some x → i < length xs
-place_within xs i x h = get_within xs i x h
-
-pub place_there : {X : Type 0} (xs : List X) (i : ℕ) → i < length xs → (x : X) × (slice_get xs i ≡ Some x)
-place_there [] i lt = absurd (omega (arith, lt))
-place_there (x ∷ xs) zero lt = (x, refl)
-place_there (x ∷ xs) (suc i) lt = place_there xs i (omega (arith, lt))
+place_within xs i x h = slice_get_within xs i x h

@@ -6,10 +6,10 @@ pub mod Agreement
 pub mod Level
 pub mod Names
 pub mod Search
-pub mod Zips
 pub mod Rebuilt
 pub mod Spares
 pub mod Rows
 pub mod AlikeCopies
 pub mod Guids
 pub mod Views
+pub mod Common

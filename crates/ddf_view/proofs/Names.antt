@@ -13,12 +13,12 @@ use Rattle.ddf_copy.specs.Written.{CanBeCopy}
 use Rattle.ddf_view.specs.View.{View, array_of, disk_of, view_of}
 use Rattle.ddf_view.specs.Readable.{DoNamesDiffer}
 
-references : (rows : List DiskRow) → filter_map reference_of rows ≡ map (λ disk. disk.reference) (filter_map disk_of rows)
+pub references : (rows : List DiskRow) → filter_map reference_of rows ≡ map (λ disk. disk.reference) (filter_map disk_of rows)
 references [] = refl
 references (disk_rows.Entry entry ∷ rows) = ap (λ others. entry.reference ∷ others) (references rows)
 references (disk_rows.Unused whole ∷ rows) = references rows
 
-guids : (rows : List ArrayRow) → filter_map guid_of rows ≡ map (λ entry. entry.guid) (filter_map array_of rows)
+pub guids : (rows : List ArrayRow) → filter_map guid_of rows ≡ map (λ entry. entry.guid) (filter_map array_of rows)
 guids [] = refl
 guids (array_rows.Entry entry ∷ rows) = ap (λ others. entry.guid ∷ others) (guids rows)
 guids (array_rows.Unused whole ∷ rows) = guids rows

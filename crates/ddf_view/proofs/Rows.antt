@@ -1,12 +1,13 @@
 -- Tables each of whose rows is as the other's don't differ in a disk or in an array.
 use Rattle.std.proofs.Common.{◌≡◌, ℕ, ◌+◌, Bool, true, false, not, ◌&&◌, eqb, List, [], ◌∷◌, ◌++◌, map, None, refl, ap, sym, ◌∙◌}
 use Rattle.std.proofs.lemmas.Bool.{and_from, and_parts, eq-eqb, eqb-true, false≢true}
-use Rattle.std.specs.Prelude.{filter, filter_map, find}
+use Rattle.std.specs.Prelude.{filter_map, find}
 use Rattle.std.specs.List.{enumerate_from}
 use Rattle.std.specs.Option.{option_eq}
 use Rattle.std.specs.Ordering.{nat_cmp}
 use Rattle.std.specs.Str.{bytes_eq}
 use Rattle.std.specs.Cmp.Lexicographic.{pointwise, slice_cmp}
+use Rattle.ddf_lemmas.proofs.Lists.{filter_none}
 use Rattle.ddf_tables.specs.declared.disks.DiskEntry.{DiskEntry}
 use Rattle.ddf_tables.specs.declared.disks.DiskRow.{DiskRow}
 use Rattle.ddf_tables.specs.declared.disks.DiskRow.TheVariants as disk_rows
@@ -15,13 +16,7 @@ use Rattle.ddf_tables.specs.declared.arrays.ArrayRow.{ArrayRow}
 use Rattle.ddf_tables.specs.declared.arrays.ArrayRow.TheVariants as array_rows
 use Rattle.ddf_view.specs.View.{array_of, disk_of}
 use Rattle.ddf_view.specs.Differ.{array_differs, differing_arrays, differing_disks, disk_differs, least, same_array, same_array_row, same_disk, same_disk_row, told_kind}
-use Rattle.ddf_view.proofs.Finds.{when_false}
 use Rattle.ddf_view.proofs.Tests.{and_five, same_bytes}
-
--- where none passes none is left
-pub none_left : {X : Type 0} (p : X → Bool) (xs : List X) → ((x : X) → p x ≡ false) → filter p xs ≡ []
-none_left p [] h = refl
-none_left p (x ∷ xs) h = when_false (p x) (x ∷ filter p xs) (filter p xs) (h x) ∙ none_left p xs h
 
 -- five tests, the first of which passes anyway
 five_from : (a b c d e : Bool) → a ≡ true → (b ≡ true) × (c ≡ true) × (d ≡ true) × (e ≡ true) → (a && b && c && d && e) ≡ true
@@ -57,7 +52,7 @@ disks_found reference n (disk_rows.Entry one ∷ rows) (disk_rows.Entry other �
 -- They don't differ in a disk.
 pub no_disk_differs : (rows others : List DiskRow) → pointwise same_disk_row rows others ≡ true → least nat_cmp (differing_disks (filter_map disk_of rows) (filter_map disk_of others)) ≡ None
 no_disk_differs rows others same =
-    ap (least nat_cmp) (none_left (disk_differs (filter_map disk_of rows) (filter_map disk_of others)) (map (λ disk. disk.reference) (filter_map disk_of rows ++ filter_map disk_of others))
+    ap (least nat_cmp) (filter_none (disk_differs (filter_map disk_of rows) (filter_map disk_of others)) (map (λ disk. disk.reference) (filter_map disk_of rows ++ filter_map disk_of others))
     (λ reference. ap not (disks_found reference 0 rows others same)))
 
 -- ---- arrays
@@ -89,5 +84,5 @@ arrays_found guid n (array_rows.Entry one ∷ rows) (array_rows.Entry other ∷ 
 -- They don't differ in an array.
 pub no_array_differs : (rows others : List ArrayRow) → pointwise same_array_row rows others ≡ true → least (slice_cmp nat_cmp) (differing_arrays (filter_map array_of rows) (filter_map array_of others)) ≡ None
 no_array_differs rows others same =
-    ap (least (slice_cmp nat_cmp)) (none_left (array_differs (filter_map array_of rows) (filter_map array_of others)) (map (λ entry. entry.guid) (filter_map array_of rows ++ filter_map array_of others))
+    ap (least (slice_cmp nat_cmp)) (filter_none (array_differs (filter_map array_of rows) (filter_map array_of others)) (map (λ entry. entry.guid) (filter_map array_of rows ++ filter_map array_of others))
     (λ guid. ap not (arrays_found guid 0 rows others same)))

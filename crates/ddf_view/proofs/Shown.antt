@@ -16,7 +16,7 @@ flag_same true false h = absurd (false≢true h)
 flag_same false true h = absurd (false≢true h)
 flag_same false false h = refl
 
-make_position : (reference start : ℕ) (synced : Bool) (row : ℕ) → Position
+unfoldable pub make_position : (reference start : ℕ) (synced : Bool) (row : ℕ) → Position
 make_position reference start synced row = record { reference = reference; start = start; synced = synced; row = row }
 
 pub position_same : (a b : Position) → same_position a b ≡ true → a ≡ b
@@ -31,7 +31,7 @@ position_same a b h =
     let made : make_position a.reference a.start a.synced a.row ≡ make_position b.reference b.start b.synced b.row = rw (reference, start, synced, row) refl in
     made
 
-make_plan : (level qualifier strip blocks stand_in : ℕ) → List Position → ElementPlan
+unfoldable pub make_plan : (level qualifier strip blocks stand_in : ℕ) → List Position → ElementPlan
 make_plan level qualifier strip blocks stand_in positions =
     record { level = level; qualifier = qualifier; strip = strip; blocks = blocks; stand_in = stand_in; positions = positions }
 

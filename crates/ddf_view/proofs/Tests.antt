@@ -9,9 +9,6 @@ use Rattle.std.specs.Cmp.Lexicographic.{pointwise}
 pub same_bytes : (xs ys : List ℕ) → bytes_eq xs ys ≡ true → xs ≡ ys
 same_bytes xs ys h = (bytes_eq-Decides xs ys).0 h
 
-pub bytes_same : (xs : List ℕ) → bytes_eq xs xs ≡ true
-bytes_same xs = (bytes_eq-Decides xs xs).1 refl
-
 pub and_three : (a b c : Bool) → (a && b && c) ≡ true → (a ≡ true) × (b ≡ true) × (c ≡ true)
 and_three a b c h =
     let last = and_parts (a && b) c h in
@@ -49,14 +46,6 @@ rests P y ys (x ∷ xs) h = (h.0.1, rests P y ys xs h.1)
 pub swap_all : {X Y : Type 0} (P : X → Y → Type 0) (xs : List X) (ys : List Y) → AllByRecursion (λ x. AllByRecursion (P x) ys) xs → AllByRecursion (λ y. AllByRecursion (λ x. P x y) xs) ys
 swap_all P xs [] h = tt
 swap_all P xs (y ∷ ys) h = (firsts P y ys xs h, swap_all P xs ys (rests P y ys xs h))
-
-pub all_map : {X : Type 0} (P Q : X → Type 0) → ((x : X) → P x → Q x) → (xs : List X) → AllByRecursion P xs → AllByRecursion Q xs
-all_map P Q f [] h = tt
-all_map P Q f (x ∷ xs) h = (f x h.0, all_map P Q f xs h.1)
-
-pub all_both : {X : Type 0} (P Q : X → Type 0) (xs : List X) → AllByRecursion P xs → AllByRecursion Q xs → AllByRecursion (λ x. P x × Q x) xs
-all_both P Q [] h k = tt
-all_both P Q (x ∷ xs) h k = ((h.0, k.0), all_both P Q xs h.1 k.1)
 
 -- two lists that match, item by item, where what holds of each item of the second makes it that of the first
 pub map_matches : {X Y : Type 0} (m : X → Y → Bool) (P : Y → Type 0) (f : X → Y) → ((x : X) (y : Y) → m x y ≡ true → P y → f x ≡ y)

@@ -19,7 +19,7 @@ or_or : {X : Type 0} (a b c : Option X) → option_or a (option_or b c) ≡ opti
 or_or None b c = refl
 or_or (Some x) b c = refl
 
-note-append : (array : List ℕ) (index : ℕ) (xs ys : List HeldRecord) → find_note array index (xs ++ ys) ≡ option_or (find_note array index xs) (find_note array index ys)
+pub note-append : (array : List ℕ) (index : ℕ) (xs ys : List HeldRecord) → find_note array index (xs ++ ys) ≡ option_or (find_note array index xs) (find_note array index ys)
 note-append array index [] ys = refl
 note-append array index (x ∷ xs) ys =
     ap (λ o. option_or (note_of array index x) o) (note-append array index xs ys)

@@ -11,6 +11,7 @@ use Rattle.ddf_words.proofs.Wishes.{create}
 use Rattle.ddf_words.specs.Words.{Word, AreElements, GoWrongAt, IsGroupCommand, IsLevel, IsName, IsNamed, IsNumber, IsPlainName, IsSecondary, LacksAt, StandsAt}
 use Rattle.ddf_words.specs.declared.command.Command.TheVariants.{Change, Copyback}
 use Rattle.ddf_words.specs.declared.command.Wish.TheVariants.{Create}
+use Rattle.ddf_words.proofs.Disks.{IsSlot}
 
 -- ---- a name alone
 
@@ -40,9 +41,6 @@ module _ (command : Word) (words : List Word) where
   wrong_named_end name more = wrong_named command (drop 1 words) 1 (behind_field IsName [] Ends words 1 0 name (more_words words 2 more))
 
 -- ---- `copyback`
-
-abbrev IsSlot : Word → Type 0
-IsSlot word = IsNumber 63 word
 
 abbrev AreSlotAlone : List Word → Type 0
 AreSlotAlone words = Fields (IsSlot ∷ []) Ends words

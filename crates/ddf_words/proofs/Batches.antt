@@ -19,7 +19,7 @@ use Rattle.ddf_words.specs.declared.command.Command.{Command}
 use Rattle.ddf_words.specs.declared.command.Command.TheVariants.{Assemble, Change}
 use Rattle.ddf_words.specs.Batch.{AskForBatch, AskForNone, AsksForBatch, IsBatch, IsServed, assembling, is_assemble}
 
-abbrev batch : Word
+abbrev pub batch : Word
 batch = codes "batch"
 
 -- ---- no other command is called so

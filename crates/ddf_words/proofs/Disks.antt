@@ -12,7 +12,7 @@ use Rattle.ddf_words.specs.declared.command.SpareWord.{SpareWord}
 use Rattle.ddf_words.specs.declared.command.SpareWord.TheVariants as spares
 use Rattle.ddf_words.specs.declared.command.Wish.TheVariants.{Fail, Spare}
 
-abbrev IsSlot : Word → Type 0
+abbrev pub IsSlot : Word → Type 0
 IsSlot word = IsNumber 63 word
 
 -- ---- `fail`

@@ -1,5 +1,5 @@
 -- Words of an exercise behind images: no command and no batch has them.
-use Rattle.std.proofs.Common.{◌≡◌, ◌≢◌, ◌∙◌, ◌⊎◌, inl, inr, ⊎_elim, ℕ, List, [], ◌∷◌, ◌++◌, get_or, Option, Some, None, refl, sym, ap, subst, codes, arith, append_assoc}
+use Rattle.std.proofs.Common.{◌≡◌, ◌≢◌, ◌∙◌, ◌⊎◌, inl, inr, ⊎_elim, ℕ, List, [], ◌∷◌, ◌++◌, get_or, Option, Some, None, refl, sym, ap, subst, arith, append_assoc}
 use Rattle.std.proofs.lemmas.List.{append_cancel_right}
 use Rattle.ddf_words.proofs.Commands.{assemble, at_sign, begins_with, examine, name_of}
 use Rattle.ddf_words.proofs.Dashes.{same_rest}
@@ -9,9 +9,7 @@ use Rattle.ddf_words.specs.declared.command.Command.{Command}
 use Rattle.ddf_words.specs.declared.command.Command.TheVariants.{Change, Examine}
 use Rattle.ddf_words.specs.Batch.{IsServed, assembling}
 use Rattle.ddf_words.specs.Asking.{exercise}
-
-abbrev batch : Word
-batch = codes "batch"
+use Rattle.ddf_words.proofs.Batches.{batch}
 
 -- ---- no command is called so
 

@@ -5,7 +5,7 @@ use Rattle.std.proofs.lemmas.Result.{err_from_is_err_and}
 use Rattle.ddf_words.specs.declared.words.WordFault.{WordFault}
 use Rattle.ddf_words.specs.declared.words.WordFault.TheVariants.{Place}
 
-same_error : {T E : Type 0} (one other : E) → ◌≡◌ {A = Result T E} (Err one) (Err other) → one ≡ other
+pub same_error : {T E : Type 0} (one other : E) → ◌≡◌ {A = Result T E} (Err one) (Err other) → one ≡ other
 same_error one other e = cc
 
 -- what passes a fault on answers it

@@ -3,18 +3,10 @@ use Rattle.std.proofs.Common.{◌≡◌, ℕ, zero, suc, ◌+◌, ◌<◌, List,
 use Rattle.std.proofs.Math.Seq.{take-suc}
 use Rattle.std.proofs.lemmas.Bool.{cases_Bool}
 use Rattle.std.proofs.lemmas.List.Folds.{find-append, find_at}
-use Rattle.std.proofs.lemmas.List.Sums.{passes_at_first}
 use Rattle.std.proofs.lemmas.Option.{get_or_from_slice_get, slice_get_within}
 use Rattle.std.specs.List.{All, find, position_or_len, slice_get}
 use Rattle.std.specs.Option.{option_or}
 use Rattle.std.specs.Bool.{then_some}
-
--- the test holds of it
-pub found_passes : (test : ℕ → Bool) (items : List ℕ) (item : ℕ) → find test items ≡ Some item → test item ≡ true
-found_passes test items item found =
-    let place = position_or_len test items in
-    let at : slice_get items place ≡ Some item = sym (find_at test items) ∙ found in
-    subst (λ n. test n ≡ true) (get_or_from_slice_get items place item 0 at) (passes_at_first test items 0 (slice_get_within items place item at))
 
 -- it has what all have
 pub found_is : (P : ℕ → Type 0) (test : ℕ → Bool) (items : List ℕ) (item : ℕ) → All P items → find test items ≡ Some item → P item

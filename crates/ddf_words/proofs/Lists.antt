@@ -12,10 +12,6 @@ prefix_len-map p f (x ∷ xs) = rw (prefix_len-map p f xs) refl
 pub position-map : {X Y : Type 0} (p : Y → Bool) (f : X → Y) (xs : List X) → position p (map f xs) ≡ position (λ x. p (f x)) xs
 position-map p f xs = rw (prefix_len-map (λ y. not (p y)) f xs, length-map xs f) refl
 
-pub none_left : {X : Type 0} (xs : List X) → length xs ≡ 0 → xs ≡ []
-none_left [] e = refl
-none_left (x ∷ xs) e = absurd (omega (arith, e))
-
 -- a list that isn't empty has a first element
 pub some_left : {X : Type 0} (xs : List X) → 0 < length xs → (first : X) × ((rest : List X) × (xs ≡ first ∷ rest))
 some_left [] some = absurd (omega arith)

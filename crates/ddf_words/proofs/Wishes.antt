@@ -1,8 +1,9 @@
 -- Which words spell which wish.
-use Rattle.std.proofs.Common.{◌≡◌, ◌≢◌, ℕ, List, [], get_or, drop, refl, sym, ap, ◌∙◌, arith, codes, false, Option, Some}
+use Rattle.std.proofs.Common.{◌≡◌, ◌≢◌, ℕ, List, [], get_or, drop, refl, sym, ap, ◌∙◌, arith, codes, false, Option}
 use Rattle.std.specs.Str.{bytes_eq}
 use Rattle.std.proofs.lemmas.Bool.{true≢false}
 use Rattle.std.proofs.lemmas.Slice.Eq.{bytes_eq-Decides}
+use Rattle.std.proofs.lemmas.Option.{same_Some}
 use Rattle.ddf_words.proofs.Elements.{same_elements}
 use Rattle.ddf_words.proofs.Numbers.{same_number}
 use Rattle.ddf_words.specs.Words.{Word, SpellCreate, SpellSpare, SpellsSpare, SpellsWish, level_rows, said_by, secondary_rows}
@@ -74,9 +75,6 @@ no_wish word is (Fail slot) = unlike word fail is.4
 
 -- ---- words ask for one wish
 
-pub same_some : {X : Type 0} (one other : X) → Some one ≡ Some other → one ≡ other
-same_some one other e = cc
-
 abbrev create_from : Word → (level qualifier code : ℕ) → Option ℕ → List CreateElement → Wish
 create_from name level qualifier code secondary elements = Create (record {
   name = name;
@@ -95,13 +93,13 @@ same_create words one other spells spells' =
     let level_word : spells.level_word ≡ spells'.level_word = ap (word_at 2) parts in
     let secondary_word : spells.secondary_word ≡ spells'.secondary_word = ap (word_at 4) parts in
     let rest : spells.rest ≡ spells'.rest = ap (drop 5) parts in
-    let same_levels : levels ≡ other_levels = same_some levels other_levels (sym spells.is_level ∙ ap (said_by level_rows) level_word ∙ spells'.is_level) in
+    let same_levels : levels ≡ other_levels = same_Some levels other_levels (sym spells.is_level ∙ ap (said_by level_rows) level_word ∙ spells'.is_level) in
     let same_name : one.name ≡ other.name = ap (word_at 1) parts in
     let same_level : one.level ≡ other.level = ap (λ (l : ℕ × ℕ). l.0) same_levels in
     let same_qualifier : one.qualifier ≡ other.qualifier = ap (λ (l : ℕ × ℕ). l.1) same_levels in
     let same_code : one.code ≡ other.code = same_number 15 one.code other.code (omega arith) spells.code_within spells'.code_within (ap (word_at 3) parts) in
     let same_secondary : one.secondary ≡ other.secondary =
-    same_some one.secondary other.secondary (sym spells.is_secondary ∙ ap (said_by secondary_rows) secondary_word ∙ spells'.is_secondary) in
+    same_Some one.secondary other.secondary (sym spells.is_secondary ∙ ap (said_by secondary_rows) secondary_word ∙ spells'.is_secondary) in
     let same_rest : one.elements ≡ other.elements = same_elements one.elements other.elements spells'.rest (rw rest at spells.are_elements.spell) spells'.are_elements.spell in
     λ i. create_from (same_name i) (same_level i) (same_qualifier i) (same_code i) (same_secondary i) (same_rest i)
 

@@ -5,6 +5,7 @@ use Rattle.std.specs.List.{cons_option, flat_map, range_with_len, sum_by}
 use Rattle.std.proofs.lemmas.Bool.{cases_lt, eqb-true, eq-eqb}
 use Rattle.std.proofs.lemmas.List.{length-append}
 use Rattle.std.proofs.lemmas.List.Sums.{sum_by-cons}
+use Rattle.ddf_lemmas.proofs.Lists.{zeros_sum}
 use Rattle.ddf_primary.specs.Copies.{copy_on, sector_on}
 use Rattle.ddf_secondary.specs.declared.spot.Spot.{Spot}
 use Rattle.ddf_secondary.specs.Spots.{spots}
@@ -22,10 +23,6 @@ pub sum_same : (f g : ℕ → ℕ) (xs : List ℕ) → ((x : ℕ) → f x ≡ g 
 sum_same f g [] same = refl
 sum_same f g (x ∷ xs) same = sum_by-cons f x xs ∙ ap (λ n. n + sum_by f xs) (same x) ∙ ap (λ n. g x + n) (sum_same f g xs same) ∙ sym (sum_by-cons g x xs)
 
-sum_zero : (f : ℕ → ℕ) (xs : List ℕ) → ((x : ℕ) → f x ≡ 0) → sum_by f xs ≡ 0
-sum_zero f [] none = refl
-sum_zero f (x ∷ xs) none = sum_by-cons f x xs ∙ (let a = none x in let b = sum_zero f xs none in omega (arith, a, b))
-
 pub sum_plus : (f g : ℕ → ℕ) (xs : List ℕ) → sum_by (λ x. f x + g x) xs ≡ sum_by f xs + sum_by g xs
 sum_plus f g [] = refl
 sum_plus f g (x ∷ xs) =
@@ -36,7 +33,7 @@ sum_plus f g (x ∷ xs) =
     omega (arith, a, b, c, d)
 
 exchange : (f : ℕ → ℕ → ℕ) (xs ys : List ℕ) → sum_by (λ x. sum_by (f x) ys) xs ≡ sum_by (λ y. sum_by (λ x. f x y) xs) ys
-exchange f [] ys = sym (sum_zero (λ y. sum_by (λ x. f x y) []) ys (λ y. refl))
+exchange f [] ys = sym (zeros_sum (λ y. sum_by (λ x. f x y) []) ys (λ y. refl))
 exchange f (x ∷ xs) ys =
     sum_by-cons (λ x. sum_by (f x) ys) x xs ∙ ap (λ n. sum_by (f x) ys + n) (exchange f xs ys)
     ∙ sym (sum_plus (f x) (λ y. sum_by (λ x. f x y) xs) ys)
@@ -97,10 +94,6 @@ many_sum : (f : ℕ → Option Site) (a n : ℕ) → how_many (map f (range_with
 many_sum f a zero = refl
 many_sum f a (suc n) =
     many_cons (f a) (map f (range_with_len (a + 1) n)) ∙ ap (λ m. number (f a) + m) (many_sum f (a + 1) n) ∙ sym (sum_by-cons (λ b. number (f b)) a (range_with_len (a + 1) n))
-
-length-flat : {Y : Type 0} (f : ℕ → List Y) (xs : List ℕ) → length (flat_map f xs) ≡ sum_by (λ x. length (f x)) xs
-length-flat f [] = refl
-length-flat f (x ∷ xs) = length-append (f x) (flat_map f xs) ∙ ap (λ n. length (f x) + n) (length-flat f xs) ∙ sym (sum_by-cons (λ x. length (f x)) x xs)
 
 length-cons : (o : Option Site) (xs : List Site) → length (cons_option o xs) ≡ number o + length xs
 length-cons None xs = let none : length xs ≡ 0 + length xs = omega arith in none
@@ -165,12 +158,12 @@ module _ (v : Volume) (known : IsVolume v) where
       here : (element : ℕ) (b : Bool)
           → sum_by (λ position. number (if b then cell_of (slice_get v.parts element) position spot.block else None)) (range_with_len 0 (places_at v.parts element)) ≡ (if b then length (at_element v.parts element_copies spot.block element) else 0)
       here element true = element_by spot.block element (slice_get v.parts element) refl
-      here element false = sum_zero (λ position. number None) (range_with_len 0 (places_at v.parts element)) (λ position. refl)
+      here element false = zeros_sum (λ position. number None) (range_with_len 0 (places_at v.parts element)) (λ position. refl)
 
   by_spot : (found : Option Spot)
       → sum_by (λ element. sum_by (λ position. number (elim found [ None ↦ None | Some spot ↦ if is_in_every v.tiers.level || spot.element == element then cell_of (slice_get v.parts element) position spot.block else None ])) (range_with_len 0 (places_at v.parts element))) (range_with_len 0 (length v.parts))
       ≡ length (flat_map (at_spot v.parts element_copies) (elim found [ None ↦ [] | Some spot ↦ spots_like v.tiers.level (length v.parts) spot ]))
-  by_spot None = sum_zero _ (range_with_len 0 (length v.parts)) (λ element. sum_zero (λ position. number None) (range_with_len 0 (places_at v.parts element)) (λ position. refl))
+  by_spot None = zeros_sum _ (range_with_len 0 (length v.parts)) (λ element. zeros_sum (λ position. number None) (range_with_len 0 (places_at v.parts element)) (λ position. refl))
   by_spot (Some spot) = by_every spot (is_in_every v.tiers.level)
 
   of_block : (block : ℕ) → sum_by (λ element. sum_by (λ position. number (cell_on v element position block)) (range_with_len 0 (places_at v.parts element))) (range_with_len 0 (length v.parts)) ≡ length (copies v block)

@@ -1,5 +1,6 @@
 -- What is kept of the cells beside blocks stays their value while these are written.
 use Rattle.std.proofs.Common.{◌≡◌, ◌∙◌, ⊎_elim, ℕ, ◌+◌, ◌/◌, ◌<◌, false, List, Some, None, sym, ap, subst, length, slice_get}
+use Rattle.ddf_lemmas.proofs.Options.{some_is}
 use Rattle.ddf_bay.specs.Sectors.{Image}
 use Rattle.ddf_primary.specs.Cells.{parity_member}
 use Rattle.ddf_array.specs.declared.part.Part.{Part}
@@ -21,10 +22,7 @@ use Rattle.ddf_write.specs.Keeping.{AreTheirValues, Keeping, KeepsNone}
 use Rattle.ddf_write.specs.Writing.{IsLeftByWrite}
 use Rattle.ddf_write.proofs.WriteLeaves.{cell_stays}
 
-some_is : {X : Type 0} {a b : X} → Some a ≡ Some b → a ≡ b
-some_is e = cc
-
-never_some : {X : Type 0} {x : X} → None ≡ Some x → ⊥
+pub never_some : {X : Type 0} {x : X} → None ≡ Some x → ⊥
 never_some e = cc
 
 -- ---- a data cell that holds none of the blocks

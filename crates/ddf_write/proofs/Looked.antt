@@ -1,13 +1,13 @@
 -- What is known once what lies beside blocks was looked at.
-use Rattle.std.proofs.Common.{◌≡◌, ◌∙◌, inl, ⊎_elim, ℕ, zero, suc, ◌+◌, ◌-◌, ◌%◌, ◌<◌, ◌≤◌, true, false, [], Some, None, sym, subst, arith, max}
+use Rattle.std.proofs.Common.{◌≡◌, ◌∙◌, inl, ⊎_elim, ℕ, zero, suc, ◌+◌, ◌-◌, ◌%◌, ◌<◌, ◌≤◌, true, false, [], None, sym, subst, arith, max}
 use Rattle.std.proofs.Math.Nat.{zero-mod}
 use Rattle.std.proofs.lemmas.Bool.{cases_lt}
 use Rattle.std.proofs.lemmas.Nat.{mod_below}
+use Rattle.std.proofs.lemmas.Map.Keys.{any_passes_from_place}
 use Rattle.ddf_bay.specs.State.{BayState}
 use Rattle.ddf_primary.proofs.ShapeFacts.{depth_le}
 use Rattle.ddf_array.specs.Volume.{IsVolume, Volume}
 use Rattle.ddf_read.specs.Reading.{Failed}
-use Rattle.ddf_cells.proofs.Items.{any_at}
 use Rattle.ddf_read.specs.declared.fault.VolumeFault.TheVariants.{Range, Lost, Unsure, Degraded, Disk}
 use Rattle.ddf_read.proofs.Tries.{Within}
 use Rattle.ddf_write.specs.declared.beside.LookFault.{LookFault}
@@ -20,6 +20,7 @@ use Rattle.ddf_write.specs.WriteRefused.{write_refusal}
 use Rattle.ddf_write.proofs.Gathered.{beside_wider}
 use Rattle.ddf_write.specs.RowWrites.{IsSure, keeps_parity_anywhere, keeps_parity_in}
 use Rattle.ddf_write.proofs.Wholly.{value_read, value_redundant}
+use Rattle.ddf_write.proofs.KeptValues.{never_some}
 
 -- ---- pieces
 
@@ -54,22 +55,19 @@ nothing_kept v start count each ahead kept some all (suc more) at within =
     (cases_lt at count)
 
 pub no_parity_kept : (v : Volume) → keeps_parity_anywhere v ≡ false → (kept : Keeping) (from many : ℕ) → AllAreKept v from many kept
-no_parity_kept v none kept from many element part position sector beside = absurd (never (sym (any_at keeps_parity_in v.parts element part beside.is_cell.is_part beside.is_cell.keeps) ∙ none))
+no_parity_kept v none kept from many element part position sector beside = absurd (never (sym (any_passes_from_place keeps_parity_in v.parts element part beside.is_cell.is_part beside.is_cell.keeps) ∙ none))
   where
     never : true ≡ false → ⊥
     never e = cc
 
 -- ---- what was kept
 
-pub never_kept : {X : Type 0} {x : X} → None ≡ Some x → ⊥
-never_kept e = cc
-
 module _ {D : Type 0} (tells : Type 0) (a b : BayState D) (v : Volume) (start count : ℕ) (kept : Keeping) (gathers : Gathers tells a b v start count [] kept) where
   pub none_kept : KeepsNone v start count kept
-  none_kept element position sector bytes is = ⊎_elim (λ was. absurd (never_kept was)) (λ may. may.holds_none) (gathers.added element position sector bytes is)
+  none_kept element position sector bytes is = ⊎_elim (λ was. absurd (never_some was)) (λ may. may.holds_none) (gathers.added element position sector bytes is)
 
   pub given_them : tells → AreGivenThem (Failed a b) v a.held kept
-  given_them tell element part position sector bytes cell is = ⊎_elim (λ was. absurd (never_kept was)) (λ may. may.given tell part cell.is_part) (gathers.added element position sector bytes is)
+  given_them tell element part position sector bytes cell is = ⊎_elim (λ was. absurd (never_some was)) (λ may. may.given tell part cell.is_part) (gathers.added element position sector bytes is)
 
   pub their_values : IsVolume v → tells → IsSure (Failed a b) v a.held → AreTheirValues v a.held kept
   their_values known tell sure element part position sector bytes cell is =

@@ -1,27 +1,16 @@
 -- Slots that are noted beside others, one after another.
-use Rattle.std.proofs.Common.{◌≡◌, ◌⊎◌, inl, inr, ⊎_elim, ℕ, zero, suc, ◌+◌, ◌<◌, ◌≤◌, Bool, true, false, List, [], ◌∷◌, refl, sym, ap, subst, arith, length}
+use Rattle.std.proofs.Common.{◌≡◌, ◌⊎◌, inl, inr, ⊎_elim, ℕ, zero, suc, ◌+◌, ◌<◌, ◌≤◌, Bool, true, false, List, [], ◌∷◌, refl, sym, subst, arith, length}
 use Rattle.std.specs.Prelude.{slice_index_or, slice_set, if◌then◌else◌}
 use Rattle.std.proofs.lemmas.Bool.{cases_lt}
+use Rattle.ddf_lemmas.proofs.Lists.{touch_count}
 use Rattle.ddf_cells.specs.Touching.{IsTouchedSlot}
-use Rattle.ddf_cells.proofs.WriteSteps.{touch_here, touch_up}
-
-touch_only : (touched : List Bool) (slot s : ℕ) → IsTouchedSlot (slice_set touched slot true) s → IsTouchedSlot touched s ⊎ (s ≡ slot)
-touch_only [] slot s is = inl is
-touch_only (b ∷ bs) zero zero is = inr refl
-touch_only (b ∷ bs) zero (suc s) is = inl is
-touch_only (b ∷ bs) (suc slot) zero is = inl is
-touch_only (b ∷ bs) (suc slot) (suc s) is = ⊎_elim inl (λ same. inr (ap suc same)) (touch_only bs slot s is)
+use Rattle.ddf_cells.proofs.WriteSteps.{touch_here, touch_up, touch_only}
 
 -- none is behind the last
 pub none_past : (touched : List Bool) (slot : ℕ) → length touched ≤ slot → IsTouchedSlot touched slot → ⊥
 none_past [] slot past is = cc
 none_past (b ∷ bs) zero past is = absurd (omega (arith, past))
 none_past (b ∷ bs) (suc slot) past is = none_past bs slot (omega (arith, past)) is
-
-long_set : (touched : List Bool) (slot : ℕ) → length (slice_set touched slot true) ≡ length touched
-long_set [] slot = refl
-long_set (b ∷ bs) zero = refl
-long_set (b ∷ bs) (suc slot) = ap suc (long_set bs slot)
 
 -- what it becomes by one slot more of these
 abbrev pub with_one : (these touched : List Bool) (slot : ℕ) → List Bool
@@ -36,7 +25,7 @@ here_by true touched slot below on = touch_here touched slot below
 here_by false touched slot below on = absurd (cc)
 
 long_by : (b : Bool) (touched : List Bool) (slot : ℕ) → length (if b then slice_set touched slot true else touched) ≡ length touched
-long_by true touched slot = long_set touched slot
+long_by true touched slot = touch_count touched slot
 long_by false touched slot = refl
 
 only_by : (b : Bool) (touched : List Bool) (slot s : ℕ) → IsTouchedSlot (if b then slice_set touched slot true else touched) s → IsTouchedSlot touched s ⊎ ((s ≡ slot) × (b ≡ true))

@@ -25,9 +25,6 @@ use Rattle.ddf_write.proofs.RowsUntouched.{IsUntouched, touched_or_not, untouche
 use Rattle.ddf_write.proofs.WriteLeaves.{cell_stays}
 use Rattle.ddf_cells.proofs.Redundance.{at_some, held, own_bytes, redundant_by, row_is_zero, sum_is}
 
-some_is : {X : Type 0} {a b : X} → Some a ≡ Some b → a ≡ b
-some_is e = cc
-
 -- ---- the copies of each block are equal before, and so after
 
 pub copies_stay_equal : (v : Volume) → IsVolume v → IsApart v → (start : ℕ) (sectors : List (List ℕ)) (before after : Image) → IsLeftByWrite v start sectors before after

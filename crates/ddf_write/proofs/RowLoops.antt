@@ -3,6 +3,7 @@ use Rattle.std.proofs.Common.{◌≡◌, ◌≢◌, ◌∙◌, ◌⊎◌, inl, i
 use Rattle.std.specs.Prelude.{if◌then◌else◌}
 use Rattle.std.proofs.lemmas.Bool.{cases_lt}
 use Rattle.std.proofs.lemmas.Option.{slice_get_within}
+use Rattle.ddf_lemmas.proofs.Options.{some_is}
 use Rattle.ddf_bay.specs.Sectors.{Image}
 use Rattle.ddf_bay.specs.State.{BayState}
 use Rattle.ddf_primary.specs.declared.cell.Cell.{Cell}
@@ -42,9 +43,6 @@ use Rattle.ddf_write.proofs.RowsRight.{row_stays}
 use Rattle.ddf_write.proofs.Gives.{may_cell}
 use Rattle.ddf_cells.specs.Parity.{IsOfRows}
 use Rattle.ddf_cells.specs.RowSums.{HoldsParityAlong}
-
-some_is : {X : Type 0} {a b : X} → Some a ≡ Some b → a ≡ b
-some_is e = cc
 
 -- ---- the only cell of a block on an element
 

@@ -1,7 +1,8 @@
 -- The data cells of rows, once blocks are written.
-use Rattle.std.proofs.Common.{◌≡◌, ◌≢◌, ◌∙◌, ◌⊎◌, inl, inr, ⊎_elim, ℕ, ◌+◌, ◌-◌, ◌/◌, ◌<◌, ◌≤◌, true, false, List, [], Some, None, sym, subst, arith, length, slice_get}
+use Rattle.std.proofs.Common.{◌≡◌, ◌≢◌, ◌∙◌, ◌⊎◌, inl, inr, ⊎_elim, ℕ, ◌+◌, ◌-◌, ◌/◌, ◌<◌, ◌≤◌, true, false, List, [], Some, sym, subst, arith, length, slice_get}
 use Rattle.std.specs.Prelude.{slice_index_or}
 use Rattle.std.proofs.lemmas.Bool.{cases_lt}
+use Rattle.ddf_lemmas.proofs.Options.{some_is}
 use Rattle.ddf_bay.specs.Sectors.{Image}
 use Rattle.ddf_primary.specs.Cells.{depth_of, parity_member}
 use Rattle.ddf_array.specs.declared.part.Part.{Part}
@@ -22,12 +23,6 @@ use Rattle.ddf_write.specs.WriteRefused.{IsOther}
 use Rattle.ddf_write.specs.Writing.{IsTouched}
 use Rattle.ddf_write.proofs.KeptValues.{cell_value_stays}
 use Rattle.ddf_write.proofs.RowsRight.{value_given}
-
-some_is : {X : Type 0} {a b : X} → Some a ≡ Some b → a ≡ b
-some_is e = cc
-
-pub never_some : {X : Type 0} {x : X} → None ≡ Some x → ⊥
-never_some e = cc
 
 -- a block of those that are written, or another one
 pub is_one : (start count block : ℕ) → start ≤ block → block - start < count → (k : ℕ) × (k < count) × (block ≡ start + k)

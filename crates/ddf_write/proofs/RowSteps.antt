@@ -1,6 +1,7 @@
 -- The parity of a row is written.
 use Rattle.std.proofs.Common.{◌≡◌, ◌∙◌, ◌⊎◌, inl, inr, ⊎_elim, ℕ, ◌+◌, ◌-◌, ◌/◌, ◌<◌, ◌≤◌, List, [], Some, false, sym, ap, subst, arith, length, slice_get}
 use Rattle.std.specs.Prelude.{option_map, slice_index_or}
+use Rattle.ddf_lemmas.proofs.Options.{some_is}
 use Rattle.ddf_read.specs.Along.{further}
 use Rattle.ddf_read.proofs.SourcesAlong.{site_further}
 use Rattle.ddf_cells.specs.Parity.{IsOfRows}
@@ -20,9 +21,6 @@ use Rattle.ddf_cells.specs.Degraded.{is_degraded}
 use Rattle.ddf_array.specs.Apart.{IsApart}
 use Rattle.ddf_write.specs.Writing.{IsParityOf, IsTouched, IsWritten, MayGive}
 use Rattle.ddf_write.proofs.RowsRight.{row_stays}
-
-some_is : {X : Type 0} {a b : X} → Some a ≡ Some b → a ≡ b
-some_is e = cc
 
 module _ (v : Volume) (element : ℕ) (part : Part) (is_part : slice_get v.parts element ≡ Some part) (sector parity : ℕ) (is_parity : parity_member part.shape (sector / part.shape.strip) ≡ Some parity)
     (start : ℕ) (sectors : List (List ℕ)) (touched : IsTouched v start (length sectors) element sector) where

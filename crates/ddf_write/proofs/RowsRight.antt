@@ -1,6 +1,8 @@
 -- The data cells of a row while blocks are written.
 use Rattle.std.proofs.Common.{◌≡◌, ◌≢◌, ◌∙◌, ◌⊎◌, ⊎_elim, ℕ, ◌+◌, ◌/◌, ◌<◌, false, List, [], Option, Some, None, sym, ap, subst, length, slice_get}
 use Rattle.std.specs.Prelude.{slice_index_or, unwrap_or}
+use Rattle.ddf_lemmas.proofs.Lists.{at_first}
+use Rattle.ddf_lemmas.proofs.Options.{some_is}
 use Rattle.ddf_bay.specs.Sectors.{Image}
 use Rattle.ddf_parity.specs.Xor.{zeros}
 use Rattle.ddf_primary.specs.Cells.{parity_member}
@@ -19,11 +21,8 @@ use Rattle.ddf_write.specs.Writing.{IsParityOf}
 use Rattle.ddf_cells.proofs.CopiesOn.{block_at_sits, in_copies, on_position}
 use Rattle.ddf_cells.proofs.OnCells.{OnCell, block_below, no_parity, on_cell, one_place}
 use Rattle.ddf_cells.proofs.DataCells as cells
-use Rattle.ddf_cells.proofs.DataCells.{IsReadFrom, at_first, row_is, same_sums, value_first}
+use Rattle.ddf_cells.proofs.DataCells.{IsReadFrom, row_is, same_sums, value_first}
 use Rattle.ddf_cells.proofs.Whole.{whole_site}
-
-some_is : {X : Type 0} {a b : X} → Some a ≡ Some b → a ≡ b
-some_is e = cc
 
 module _ (v : Volume) (known : IsVolume v) (apart : IsApart v) (element : ℕ) (part : Part) (is_part : slice_get v.parts element ≡ Some part) (sector position : ℕ) (own : Site)
     (is_own : site_at part.places position sector ≡ Some own) where

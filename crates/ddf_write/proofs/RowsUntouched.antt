@@ -1,6 +1,7 @@
 -- The rows that a write doesn't touch stay.
 use Rattle.std.proofs.Common.{◌≡◌, ◌≢◌, ◌∙◌, ◌⊎◌, inl, inr, ⊎_elim, ℕ, zero, suc, ◌+◌, ◌/◌, ◌<◌, ◌≤◌, false, List, Option, Some, None, refl, sym, ap, subst, arith, length, slice_get}
 use Rattle.std.proofs.lemmas.Bool.{cases_lt}
+use Rattle.ddf_lemmas.proofs.Options.{some_is}
 use Rattle.ddf_bay.specs.Sectors.{Image}
 use Rattle.ddf_primary.specs.Cells.{parity_member}
 use Rattle.ddf_primary.proofs.ShapeFacts.{cell_facts}
@@ -21,9 +22,6 @@ use Rattle.ddf_cells.proofs.Whole.{whole_site}
 use Rattle.ddf_write.specs.Writing.{IsLeftByWrite, IsTouched}
 use Rattle.ddf_write.proofs.RowReads.{one_or_other}
 use Rattle.ddf_write.proofs.WriteLeaves.{cell_stays}
-
-some_is : {X : Type 0} {a b : X} → Some a ≡ Some b → a ≡ b
-some_is e = cc
 
 -- ---- a row is touched, or not
 

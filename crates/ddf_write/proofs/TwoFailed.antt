@@ -4,6 +4,8 @@ use Rattle.std.specs.Prelude.{◌==◌, option_map, option_to_list, if◌then◌
 use Rattle.std.specs.List.{flat_map, range_with_len}
 use Rattle.std.proofs.lemmas.Bool.{eqb-true, eq-eqb}
 use Rattle.std.proofs.lemmas.Option.{slice_get_within}
+use Rattle.ddf_lemmas.proofs.Lists.{get_filter_map}
+use Rattle.ddf_lemmas.proofs.Options.{some_is}
 use Rattle.ddf_primary.specs.Cells as cells_of
 use Rattle.ddf_array.specs.declared.part.Part.{Part}
 use Rattle.ddf_array.specs.declared.site.Site.{Site}
@@ -13,7 +15,7 @@ use Rattle.ddf_array.specs.Places.{site_at}
 use Rattle.ddf_array.specs.Rows.{block_at, sources_without_block}
 use Rattle.ddf_array.specs.Sources.{Source, copy, row, all_of, at_spot, copies, element_rows, every_source, other_at, row_without, rows}
 use Rattle.ddf_array.specs.Volume.{IsVolume, Volume}
-use Rattle.ddf_array.proofs.Consistent.{at_part, in_flat, to_filter, to_flat}
+use Rattle.ddf_array.proofs.Consistent.{at_part, in_flat, to_flat}
 use Rattle.ddf_array.proofs.RowCells.{row_is}
 use Rattle.ddf_read.specs.Reading.{AllHaveSlot, HasSite}
 use Rattle.ddf_cells.specs.Degraded.{is_degraded}
@@ -24,9 +26,6 @@ use Rattle.ddf_cells.proofs.OnCells.{spot_of}
 use Rattle.ddf_cells.proofs.Surely.{of_place}
 use Rattle.ddf_cells.proofs.Whole.{whole_site}
 use Rattle.ddf_write.specs.Beside.{AreOnOwnDisks, NoneLeftBeside}
-
-some_is : {X : Type 0} {a b : X} → Some a ≡ Some b → a ≡ b
-some_is e = cc
 
 -- ---- sources of lists
 
@@ -124,7 +123,7 @@ module _ (v : Volume) (known : IsVolume v) (whole : is_degraded v ≡ false) (ow
       let on = subst (λ (q : Part). cells_of.Holds q.shape position sector inner) same sits.on_position in
       let spot = at_spots v known block element inner sits.in_element (slice_get_within v.parts element part is_part) in
       let here = at_cells part inner (known.are_parts element part is_part).shape_is position sector on in
-      let inside = to_filter (λ (c : ℕ × ℕ). row_without part.places c.0 c.1) (element_cells part.shape inner) here.0 (position, sector) sites here.1 is_row in
+      let inside = get_filter_map (λ (c : ℕ × ℕ). row_without part.places c.0 c.1) (element_cells part.shape inner) here.0 (position, sector) sites here.1 is_row in
       to_flat (at_spot v.parts element_rows) (block_spots v block) spot.0 inside.0 (spot_of element inner) sites spot.1
       (ap (λ (l : List (List Site)). slice_get l inside.0) (at_part v.parts element_rows (spot_of element inner) part is_part)
       ∙ ap (λ b. slice_get (if b then filter_map (λ (c : ℕ × ℕ). row_without part.places c.0 c.1) (element_cells part.shape inner) else []) inside.0) keep

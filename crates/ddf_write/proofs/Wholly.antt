@@ -1,7 +1,8 @@
 -- What is read of an array whose cells hold whole sectors is what it would be if all sectors were whole.
-use Rattle.std.proofs.Common.{◌≡◌, ◌∙◌, inl, inr, ⊎_elim, ℕ, zero, suc, ◌<◌, Bool, true, false, List, [], ◌∷◌, ◌++◌, Option, Some, None, refl, sym, subst, arith, length, length-append, map, take, slice_get}
+use Rattle.std.proofs.Common.{◌≡◌, ◌∙◌, inl, inr, ⊎_elim, ℕ, zero, suc, ◌<◌, Bool, true, false, List, [], ◌∷◌, ◌++◌, Option, Some, None, refl, sym, subst, arith, length-append, map, take, slice_get}
 use Rattle.std.specs.Prelude.{option_to_list, is_some, ◌&&◌, if◌then◌else◌}
-use Rattle.std.proofs.lemmas.List.{length-replicate, length-take-le, take_at}
+use Rattle.std.proofs.lemmas.List.{length-take-le, take_at}
+use Rattle.ddf_lemmas.proofs.Lists.{in_either, in_map}
 use Rattle.ddf_bay.specs.Sectors.{Image}
 use Rattle.ddf_bay.specs.State.{BayState}
 use Rattle.ddf_parity.specs.Xor.{zeros}
@@ -15,22 +16,19 @@ use Rattle.ddf_array.specs.Sound.{AreSectors}
 use Rattle.ddf_array.specs.Sources.{Source, copy, row, copies, every_source, row_without, sources, trusts_parity}
 use Rattle.ddf_array.specs.Values.{given}
 use Rattle.ddf_array.specs.Volume.{IsVolume, Volume}
+use Rattle.ddf_array.proofs.RowSums.{long_zeros}
 use Rattle.ddf_read.specs.Reading.{Failed, HasSlot, IsGivenBy}
 use Rattle.ddf_cells.specs.Alike.{AreAlike}
 use Rattle.ddf_cells.specs.CellSources as cells
 use Rattle.ddf_cells.specs.GivenCells.{IsCellGiven}
 use Rattle.ddf_cells.specs.Without.{IsGivenWithout, own_sources}
 use Rattle.ddf_cells.proofs.Alike.{AreCellSites, IsCellSite, IsOfCells, of_copy, of_row, cell_same, cell_site, copy_is_cell, given_same, redundant_same, row_cells, source_is_cells}
-use Rattle.ddf_cells.proofs.Lists.{in_both, in_map, some_not_none}
+use Rattle.ddf_cells.proofs.Lists.{some_not_none}
 use Rattle.ddf_cells.proofs.Surely.{cell_of_block, cell_without}
 use Rattle.ddf_write.specs.Beside.{IsDataCell}
 use Rattle.ddf_write.specs.RowWrites.{HaveSectors}
 
 -- ---- an image all of whose sectors are whole
-
-long_zeros : length zeros ≡ 512
-unfolding zeros
-long_zeros = let none : ℕ = 0 in length-replicate 512 none
 
 padded : Image → Image
 padded image slot lba = take 512 (image slot lba ++ zeros)
@@ -91,7 +89,7 @@ module _ (v : Volume) (known : IsVolume v) where
         ⊎_elim
         (λ (front : (j : ℕ) × (slice_get (map copy (option_to_list (site_at part.places position sector))) j ≡ Some source)). own_copy front.0 source front.1)
         (λ (back : (j : ℕ) × (slice_get (if keeps_parity part.shape.layout then map row (option_to_list (row_without part.places position sector)) else []) j ≡ Some source)). own_rows (keeps_parity part.shape.layout) back.0 source back.1)
-        (in_both (map copy (option_to_list (site_at part.places position sector))) (if keeps_parity part.shape.layout then map row (option_to_list (row_without part.places position sector)) else []) k source at)
+        (in_either (map copy (option_to_list (site_at part.places position sector))) (if keeps_parity part.shape.layout then map row (option_to_list (row_without part.places position sector)) else []) k source at)
 
     own_are : (alone : Bool) (k : ℕ) (source : Source) → slice_get (if alone then map copy (option_to_list (site_at part.places position sector)) else sources_without_block part position sector) k ≡ Some source → IsOfCells v source
     own_are true k source at = own_copy k source at

@@ -1,5 +1,5 @@
 -- What holds once blocks are written and made sure.
-use Rattle.std.proofs.Common.{◌≡◌, inl, inr, ⊎_elim, ℕ, ◌+◌, ◌<◌, Bool, List, Some, sym, subst, arith, length}
+use Rattle.std.proofs.Common.{◌≡◌, inl, inr, ⊎_elim, ℕ, ◌+◌, ◌<◌, Bool, List, sym, subst, arith, length}
 use Rattle.ddf_bay.specs.State.{BayState}
 use Rattle.ddf_bay.specs.Sectors.{Image}
 use Rattle.ddf_array.specs.Places.{site_on}
@@ -11,9 +11,6 @@ use Rattle.ddf_cells.proofs.Ends.{held_by, touched_by}
 use Rattle.ddf_cells.proofs.CopiesOn.{on_position}
 use Rattle.ddf_cells.proofs.FirstSlots.{on_there}
 use Rattle.ddf_write.proofs.FaultSlots.{written_on}
-
-some_is : {X : Type 0} {a b : X} → Some a ≡ Some b → a ≡ b
-some_is e = cc
 
 module _ (v : Volume) (known : IsVolume v) (start : ℕ) (sectors : List (List ℕ)) where
   -- what a write gives lies on slots

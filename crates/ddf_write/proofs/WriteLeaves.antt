@@ -1,6 +1,7 @@
 -- What a write leaves: of images that a stop leaves, and of single blocks.
 use Rattle.std.proofs.Common.{◌≡◌, ◌≢◌, ◌∙◌, ◌⊎◌, inl, inr, ⊎_elim, ℕ, ◌+◌, ◌/◌, ◌<◌, Bool, true, false, List, [], Option, Some, None, refl, sym, ap, subst, length, slice_get}
 use Rattle.std.specs.Prelude.{slice_index_or, option_map, option_and_then, if◌then◌else◌}
+use Rattle.ddf_lemmas.proofs.Options.{some_is}
 use Rattle.ddf_bay.specs.Sectors.{Image, Outcomes, IsLeft}
 use Rattle.ddf_bay.specs.Moments.{IsSettled}
 use Rattle.ddf_primary.proofs.Needs.{parity_keeps}
@@ -23,9 +24,6 @@ use Rattle.ddf_cells.proofs.OnCells.{block_below, no_parity, on_cell, one_owner}
 use Rattle.ddf_cells.proofs.DataCells.{read_from_one, row_is, same_sums}
 use Rattle.ddf_cells.proofs.Whole.{whole_site}
 use Rattle.ddf_write.proofs.Gives.{may_cell}
-
-some_is : {X : Type 0} {a b : X} → Some a ≡ Some b → a ≡ b
-some_is e = cc
 
 -- ---- a stop in a write comes from an image that a stop might leave before
 

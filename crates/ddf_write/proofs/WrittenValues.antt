@@ -1,8 +1,10 @@
 -- The values of blocks once they are written, and a sound array.
-use Rattle.std.proofs.Common.{◌≡◌, ◌≢◌, ◌∙◌, ℕ, ◌+◌, ◌/◌, ◌<◌, Bool, true, false, not, List, [], ◌∷◌, Some, None, refl, sym, ap, arith, length, slice_get, ◌&&◌}
+use Rattle.std.proofs.Common.{◌≡◌, ◌≢◌, ◌∙◌, ℕ, ◌+◌, ◌/◌, ◌<◌, Bool, true, false, not, List, [], ◌∷◌, Some, None, refl, sym, ap, arith, length, slice_get}
 use Rattle.std.specs.Prelude.{count_by, nat_lt, slice_index_or, if◌then◌else◌}
 use Rattle.std.specs.List.{list_all}
 use Rattle.std.proofs.lemmas.List.Sums.{sum_by-cons}
+use Rattle.ddf_lemmas.proofs.Lists.{at_first}
+use Rattle.ddf_lemmas.proofs.Tests.{and_first, and_second, second_of_and_not}
 use Rattle.ddf_bay.specs.Sectors.{Image}
 use Rattle.ddf_primary.proofs.Needs.{parity_keeps}
 use Rattle.ddf_array.specs.declared.place.Place.{Place}
@@ -16,13 +18,12 @@ use Rattle.ddf_array.specs.Sources.{copies}
 use Rattle.ddf_array.specs.Values.{value}
 use Rattle.ddf_array.specs.Volume.{Volume, IsVolume, capacity, volume}
 use Rattle.ddf_array.specs.Within.{is_within}
-use Rattle.ddf_array.proofs.Bools.{and_first, and_second}
 use Rattle.ddf_read.specs.declared.fault.VolumeFault.{VolumeFault}
 use Rattle.ddf_read.specs.declared.fault.VolumeFault.TheVariants.{Range, Lost, Degraded}
 use Rattle.ddf_cells.specs.Degraded.{is_degraded}
 use Rattle.ddf_write.specs.WriteRefused.{write_refusal}
 use Rattle.ddf_write.specs.Writing.{HasWritten, IsLeftByWrite}
-use Rattle.ddf_cells.proofs.DataCells.{at_first, value_first}
+use Rattle.ddf_cells.proofs.DataCells.{value_first}
 use Rattle.ddf_cells.proofs.Whole.{none_lacks}
 use Rattle.ddf_write.proofs.WriteLeaves.{cell_stays, unmarked_redundant}
 
@@ -49,11 +50,6 @@ none_away (p ∷ places) all =
     let rest = none_away places (and_second (is_available p) (list_all is_available places) all) in
     sum_by-cons (λ (q : Place). if not (is_available q) then 1 else 0) p places ∙ ap (λ b. (if not b then 1 else 0) + count_by (λ place. not (is_available place)) places) here ∙ omega (arith, rest)
 
-all_there : (a b : Bool) → a ≡ true → (a && not b) ≡ false → b ≡ true
-all_there true true is e = refl
-all_there true false is e = absurd (cc)
-all_there false b is e = absurd (cc)
-
 pub sound_after : (is_absent : ℕ → ℕ → Bool) (v : Volume) (marked : Bool) (image : Image) → is_degraded v ≡ false → AreSectors image → IsRedundant v image → IsSound is_absent (volume marked v.tiers v.parts) image
 sound_after is_absent v marked image whole are redundant = record {
   are_sectors = are;
@@ -61,7 +57,7 @@ sound_after is_absent v marked image whole are redundant = record {
   parity = λ unmarked within element sector position part one is_part away absent is_parity below at holds.
       let lacks = none_lacks v.parts whole element part is_part in
       let keep = parity_keeps part.shape.layout part.shape.members (sector / part.shape.strip) position is_parity in
-      let none = none_away part.places (all_there (keeps_parity part.shape.layout) (list_all is_available part.places) keep lacks) in
+      let none = none_away part.places (second_of_and_not (keeps_parity part.shape.layout) (list_all is_available part.places) keep lacks) in
       absurd (omega (arith, away, none));
 }
 

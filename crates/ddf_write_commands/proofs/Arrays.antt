@@ -1,5 +1,6 @@
 -- The three calls around the blocks of an array, each as it ends: what came of all.
 use Rattle.std.proofs.Common.{◌≡◌, ℕ, ◌≤◌, Bool, true, false, List, ◌++◌, length, Option, Result, Ok, Err, sym, ap, subst, ◌∙◌, inl, arith}
+use Rattle.ddf_lemmas.proofs.Options.{ok_is}
 use Rattle.ddf_bay.specs.Moments.{GoesOn, StopsLeave}
 use Rattle.ddf_bay.specs.State.{BayState}
 use Rattle.ddf_bay.proofs.Steps.{stops_weaken}
@@ -35,8 +36,9 @@ use Rattle.ddf_write_commands.specs.Plans.{IsPlanOf}
 use Rattle.ddf_write_commands.specs.Worked.{IsArrayLeft, IsLeftDoing, IsWorkedOf}
 use Rattle.ddf_write_commands.proofs.Between.{can_close, close_along, close_aside, close_keeps, close_leaves, closed, not_opened, work_along, work_aside, work_keeps, work_leaves, work_left, work_stopped}
 use Rattle.ddf_bay.specs.Told.{IsTold}
-use Rattle.ddf_write_commands.proofs.OnePlan.{same_first, same_last, same_ok, same_volume}
-use Rattle.ddf_write_commands.proofs.Parts.{issued_parts, opening_fails}
+use Rattle.ddf_history_steps.proofs.CommittingGoes.{changes_of_both}
+use Rattle.ddf_write_commands.proofs.OnePlan.{same_first, same_last, same_volume}
+use Rattle.ddf_write_commands.proofs.Parts.{opening_fails}
 use Rattle.ddf_write_commands.proofs.PlanKept.{IsPlannedAs, first, is_first, planned, planned_by, steps_are}
 use Rattle.ddf_write_commands.proofs.Works.{HasStopped, HasWorked, IsSteady}
 
@@ -93,9 +95,9 @@ module _ {D : Type 0} (tells : Type 0) (doing : Doing) (steady : IsSteady doing)
       not_opened_keeps steps are group same past kept admitted =
           let its_plan = planned found refusing behind word plan timestamp is few ready was in
           let both : its_plan.planned.first ++ its_plan.planned.last ≡ steps =
-          same_ok (sym its_plan.planned.are_asked ∙ steps_are found refusing behind word plan timestamp is few ∙ ap steps_or are) in
+          ok_is (sym its_plan.planned.are_asked ∙ steps_are found refusing behind word plan timestamp is few ∙ ap steps_or are) in
           subst (λ (all : List Step). KeepsHistory group old opened past left found (changes_in found all) false) both
-          (subst (λ (all : List Configuration). KeepsHistory group old opened past left found all false) (sym (issued_parts found its_plan.planned.first its_plan.planned.last))
+          (subst (λ (all : List Configuration). KeepsHistory group old opened past left found all false) (sym (changes_of_both found its_plan.planned.first its_plan.planned.last))
           (recovery_failed group old opened past left found (changes_in found its_plan.planned.first) (changes_in found its_plan.planned.last)
           (subst (λ (all : List Step). KeepsHistory group old opened past left found (changes_in found all) false) (sym its_plan.first_is) (keeps_first group same past kept admitted))))
 

@@ -31,7 +31,7 @@ use Rattle.ddf_history_steps.specs.BlockFloors.{floor_in}
 
 -- ---- the floors of seats
 
-abbrev on_slot : ℕ → Seat → Bool
+abbrev pub on_slot : ℕ → Seat → Bool
 on_slot slot seat = seat.slot == slot
 
 -- Where the slots of seats rise each seat is the one of its slot.
@@ -74,7 +74,7 @@ floors_fit sizes seats rise fit k seat at =
 
 -- ---- the cells
 
-some_part : {one other : Part} → Some one ≡ Some other → one ≡ other
+pub some_part : {one other : Part} → Some one ≡ Some other → one ≡ other
 some_part e = cc
 
 module _ (volume : Volume) (known : IsVolume volume) (sizes : List ℕ) (fits : Fits sizes volume) where

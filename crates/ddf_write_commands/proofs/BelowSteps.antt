@@ -1,21 +1,15 @@
 -- The steps of a group write nothing below the floors of the slots.
-use Rattle.std.proofs.Common.{◌≡◌, ◌≢◌, ◌⊎◌, ◌∙◌, inl, inr, ⊎_elim, ℕ, zero, suc, ◌-◌, ◌<◌, ◌≤◌, true, List, [], ◌∷◌, Some, Ok, refl, ap, sym, subst, arith}
+use Rattle.std.proofs.Common.{◌≡◌, ◌≢◌, ◌⊎◌, ◌∙◌, inl, inr, ⊎_elim, ℕ, zero, suc, ◌<◌, ◌≤◌, List, [], ◌∷◌, Some, Ok, refl, ap, sym, subst, arith}
 use Rattle.std.proofs.lemmas.Bool.{cases_eq}
 use Rattle.std.specs.Prelude.{slice_get, slice_index}
 use Rattle.ddf_bay.specs.Sectors.{Image}
 use Rattle.ddf_bay.specs.State.{BayState, size_of}
-use Rattle.ddf_copy.specs.declared.copy.DiskCopy.{DiskCopy}
-use Rattle.ddf_copy.specs.declared.run.Run.{Run}
-use Rattle.ddf_copy.specs.declared.which.Which.{Which}
-use Rattle.ddf_copy.specs.declared.which.Which.TheVariants.{Primary, Secondary}
+use Rattle.ddf_copy.specs.declared.which.Which.TheVariants.{Primary}
 use Rattle.ddf_copy.specs.Headers.{IsUnder}
-use Rattle.ddf_copy.specs.Runs.{IsInCopy, RunsCover}
-use Rattle.ddf_copy.specs.Which.{other_of, place_of}
 use Rattle.ddf_copy.proofs.Stands.{place_within}
 use Rattle.ddf_plan.specs.declared.change.Change.{Change}
-use Rattle.ddf_update.specs.declared.prepared.Mode.{Mode}
 use Rattle.ddf_update.specs.declared.prepared.Prepared.{Prepared}
-use Rattle.ddf_update.specs.Prepared.{IsPrepared, writes_anchor, written_first}
+use Rattle.ddf_update.specs.Prepared.{IsPrepared}
 use Rattle.ddf_update.specs.Update.{IsWritten as IsUpdateSector}
 use Rattle.ddf_rewrite.proofs.Lists.{all_at}
 use Rattle.ddf_seats.specs.declared.seated.Seated.{Seated}
@@ -23,7 +17,9 @@ use Rattle.ddf_seats.specs.Changing.{SlotsRise}
 use Rattle.ddf_seats.specs.Group.{GroupValue, floor_of}
 use Rattle.ddf_seats.specs.Seated.{seated}
 use Rattle.ddf_seats.proofs.CommittedSeats.{seated_is}
+use Rattle.ddf_seats.proofs.Common.{floor_below}
 use Rattle.ddf_steps.specs.Steps.{Step}
+use Rattle.ddf_steps.proofs.Common.{written_past}
 use Rattle.ddf_assembly.specs.Reading.{HaveAnchors}
 use Rattle.ddf_recovery.specs.Ready.{readied}
 use Rattle.ddf_recovery.proofs.CommittedCopies.{standing_under}
@@ -37,30 +33,6 @@ use Rattle.ddf_write_commands.proofs.StepFloors.{AllFloored, HaveFloorsOf, readi
 pub record IsFloored (size : ℕ) (floor : ℕ → ℕ) (disk : Seated) : Type 0 where
   pub same : floor_of disk.copy ≡ floor disk.seat.slot
   pub within : floor disk.seat.slot < size
-
--- ---- what is written of a copy
-
-covered : (lba : ℕ) (runs : List Run) (l : ℕ) → RunsCover lba runs l → lba ≤ l
-covered lba [] l is = absurd is
-covered lba (run ∷ runs) l is = ⊎_elim (λ here. omega (arith, here.0)) (λ later. covered lba runs l later) is
-
-in_copy : (lba : ℕ) (runs : List Run) (l : ℕ) → IsInCopy lba runs l → lba ≤ l
-in_copy lba runs l is = ⊎_elim (λ head. omega (arith, head)) (λ rest. covered lba runs l rest) is
-
-floor_below : (copy : DiskCopy) (which : Which) → floor_of copy ≤ place_of which copy.header
-floor_below copy Primary = omega arith
-floor_below copy Secondary = omega arith
-
--- it lies at or past the floor, or is the last sector
-written_past : (copy : DiskCopy) (last : Which) (mode : Mode) (update : Prepared) (size l : ℕ) → IsPrepared copy last mode update → IsUpdateSector size update l
-    → (floor_of copy ≤ l) ⊎ ((writes_anchor mode ≡ true) × (l ≡ size - 1))
-written_past copy last mode update size l is written =
-    ⊎_elim
-    (λ either. inl (⊎_elim
-    (λ first. let lba = in_copy update.first.lba update.runs l first in let low = floor_below copy (written_first mode last) in omega (arith, lba, is.first_is.lba_is, low))
-    (λ second. let lba = in_copy update.second.lba update.runs l second in let low = floor_below copy (other_of (written_first mode last)) in omega (arith, lba, is.second_is.lba_is, low))
-    either))
-    (λ anchor. inr (ap writes_anchor (sym is.mode_is) ∙ anchor.0, anchor.1)) written
 
 -- ---- what is written
 

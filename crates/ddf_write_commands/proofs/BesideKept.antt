@@ -1,6 +1,7 @@
 -- What a look kept of the cells beside blocks, before the steps of the group that come before these: behind them it is what the cells hold still.
 use Rattle.std.proofs.Common.{◌≡◌, ◌∙◌, inl, inr, ℕ, ◌≤◌, true, false, not, List, length, None, Some, ap, sym, subst}
 use Rattle.std.specs.Map.{lookup}
+use Rattle.ddf_bytes.proofs.Common.{rose_behind}
 use Rattle.ddf_bay.specs.Sectors.{Image}
 use Rattle.ddf_bay.specs.State.{BayState}
 use Rattle.ddf_config.specs.Configuration.{Configuration}
@@ -23,7 +24,6 @@ use Rattle.ddf_seats.specs.Group.{GroupValue}
 use Rattle.ddf_seats.specs.Seated.{seated}
 use Rattle.ddf_recovery.specs.Recovery.{config_recovered}
 use Rattle.ddf_history_steps.specs.BlockFloors.{AreFloored}
-use Rattle.ddf_answer.proofs.Rises.{rose_still}
 use Rattle.ddf_group_commands.specs.GroupRead.{IsReadFrom}
 use Rattle.ddf_group_commands.specs.Written.{AreWritten}
 use Rattle.ddf_read_commands.proofs.ArrayUse.{named_is}
@@ -104,7 +104,7 @@ module _ (start count : ℕ) (group : GroupValue) (word : List ℕ) (plan : Plan
 
       -- what is sure behind the steps was sure before them
       sure_before : IsSure (Failed old new) plain before → IsSure (Failed old looked) plain old.held
-      sure_before (inl none) = inl (λ slot on failed. none slot on (rose_still (old.failed_reads slot) (looked.failed_reads slot) (new.failed_reads slot) (look_rise slot) (then_rise slot) failed))
+      sure_before (inl none) = inl (λ slot on failed. none slot on (rose_behind (old.failed_reads slot) (looked.failed_reads slot) (new.failed_reads slot) (look_rise slot) (then_rise slot) failed))
       sure_before (inr (sectors, redundant)) = inr (
         λ slot lba cell. ap length (alike slot lba cell) ∙ sectors slot lba cell,
         redundant_same plain is.is_for.known_before before old.held (λ slot lba cell. sym (alike slot lba cell)) redundant,

@@ -3,16 +3,18 @@ use Rattle.std.proofs.Common.{◌≡◌, ℕ, ◌<◌, ◌≤◌, Bool, true, fa
 use Rattle.std.proofs.lemmas.Bool.{false≢true}
 use Rattle.std.proofs.lemmas.Option.{slice_get_within}
 use Rattle.std.specs.Prelude.{slice_get}
+use Rattle.ddf_lemmas.proofs.Lists.{in_map}
+use Rattle.ddf_lemmas.proofs.Options.{same_ok_value}
 use Rattle.ddf_bytes.specs.Counts.{Rose}
+use Rattle.ddf_bytes.proofs.Common.{rose_behind}
 use Rattle.ddf_bay.specs.Moments.{IsSettled, StopsLeave}
 use Rattle.ddf_bay.specs.Sectors.{Image}
 use Rattle.ddf_bay.specs.State.{BayState}
-use Rattle.ddf_bay.proofs.Steps.{stops_then, stops_weaken}
+use Rattle.ddf_bay.proofs.Steps.{stops_then, stops_weaken, rose_since}
 use Rattle.ddf_config.specs.declared.seat.Seat.{Seat}
 use Rattle.ddf_config.specs.Configuration.{Configuration}
 use Rattle.ddf_config.specs.Seats.{SeatsFit}
 use Rattle.ddf_plan.specs.declared.change.Change.{Change}
-use Rattle.ddf_rewrite.proofs.Lists.{map_get}
 use Rattle.ddf_array.specs.Sound.{AreSectors}
 use Rattle.ddf_array.specs.Volume.{Volume}
 use Rattle.ddf_read.specs.Reading.{Failed}
@@ -21,7 +23,6 @@ use Rattle.ddf_history.specs.Groups.{groups}
 use Rattle.ddf_history.specs.Issued.{Past}
 use Rattle.ddf_history.specs.Promise.{IsKept}
 use Rattle.ddf_history.specs.Scenes.{scene_of}
-use Rattle.ddf_seats.specs.declared.fault.GroupFault.{GroupFault}
 use Rattle.ddf_steps.specs.Committed.{AreSettled, slots_of}
 use Rattle.ddf_seats.specs.Group.{GroupValue}
 use Rattle.ddf_assembly.specs.Reading.{HaveAnchors}
@@ -37,7 +38,6 @@ use Rattle.ddf_history_steps.specs.BlockFloors.{AreFloored, WritesBelow, floor_i
 use Rattle.ddf_answer.specs.declared.failure.Failure.{Failure}
 use Rattle.ddf_answer.specs.declared.failure.Failure.TheVariants.{Conflict, Disk, Memory, Refused, Split}
 use Rattle.ddf_answer.specs.Call.{Work, work_of}
-use Rattle.ddf_answer.proofs.Rises.{rose_later, rose_still}
 use Rattle.ddf_group_commands.specs.Change.{IsChanged, KeepsHistories, Request, last_sequence, steps_of}
 use Rattle.ddf_group_commands.specs.GroupRead.{IsFoundBy, IsReadFrom}
 use Rattle.ddf_group_commands.specs.Others.{LeavesOthers}
@@ -55,15 +55,13 @@ use Rattle.ddf_write_commands.proofs.BelowFloors.{floor_slot}
 use Rattle.ddf_write_commands.proofs.Closing.{last_keeps}
 use Rattle.ddf_write_commands.proofs.Courses.{write_fails, writes}
 use Rattle.ddf_bay.specs.Told.{IsTold}
-use Rattle.ddf_write_commands.proofs.Parts.{comes_along, configs_of, work_fails}
+use Rattle.ddf_history_steps.proofs.Course.{configs_of}
+use Rattle.ddf_write_commands.proofs.Parts.{comes_along, work_fails}
 use Rattle.ddf_write_commands.proofs.Unmoved.{have_floors, holds_still}
 use Rattle.ddf_write_commands.proofs.Works.{HasStopped, HasWorked, IsSteady}
 use Rattle.ddf_group_commands.proofs.LeftWriting.{left_still, writing_more}
 
 -- ---- small things
-
-same_steps : (answer : Result (List Step) GroupFault) (one other : List Step) → answer ≡ Ok one → answer ≡ Ok other → one ≡ other
-same_steps answer one other is are = let both : ◌≡◌ {A = Result (List Step) GroupFault} (Ok one) (Ok other) = sym is ∙ are in cc
 
 -- the sequence number behind two parts
 last_behind : (config : Configuration) (first last : List Step) → last_sequence config.sequence (first ++ last) ≡ last_sequence (config_behind config first).sequence last
@@ -75,7 +73,7 @@ last_behind config (step ∷ first) last = last_behind step.config first last
 module _ {D : Type 0} (doing : Doing) (work : Work D) (found : GroupValue) (timestamp : ℕ) (word : List ℕ) (request : Request) where
   pub seat_there : SeatsFit work.old.sizes found.seats → (slot : ℕ) → IsOneOf (slots_of found.seats) slot → slot < length work.old.sizes
   seat_there fit slot one =
-      let seat = map_get (λ (each : Seat). each.slot) found.seats one.place slot one.is_there in
+      let seat = in_map (λ (each : Seat). each.slot) found.seats one.place slot one.is_there in
       subst (λ (n : ℕ). n < length work.old.sizes) seat.2 (fit one.place seat.0 seat.1).0
 
   pub not_opened : IsPlanned found timestamp word request → (failure : Failure) → IsChanged work found (steps_of found timestamp request) (Err failure)
@@ -110,7 +108,7 @@ module _ {D : Type 0} (tells : Type 0) (doing : Doing) (steady : IsSteady doing)
   settled_at : tells → (s : ℕ) → is_slot slots s ≡ true → IsSettled opened.may_hold opened.held s
   settled_at told s is =
       let place = slot_placed slots s is in
-      let seat = map_get (λ (one : Seat). one.slot) found.seats place.0 s place.1 in
+      let seat = in_map (λ (one : Seat). one.slot) found.seats place.0 s place.1 in
       let at : slice_get now_found.seats place.0 ≡ Some seat.0 = ap (λ (seats : List Seat). slice_get seats place.0) opens.same_seats ∙ seat.1 in
       subst (λ (slot : ℕ). IsSettled opened.may_hold opened.held slot) seat.2
       ((opens.can_go_on.holds told).are_settled place.0 seat.0 (slice_get_within now_found.seats place.0 seat.0 at) at)
@@ -144,7 +142,7 @@ module _ {D : Type 0} (tells : Type 0) (doing : Doing) (steady : IsSteady doing)
 
     more_failed : (new : BayState D) → ((slot : ℕ) → behind.failed_reads slot ≤ new.failed_reads slot) → (slot : ℕ) → Failed opened behind slot → Failed old new slot
     more_failed new rise slot failed =
-        rose_still (old.failed_reads slot) (behind.failed_reads slot) (new.failed_reads slot)
+        rose_behind (old.failed_reads slot) (behind.failed_reads slot) (new.failed_reads slot)
         (let up = works.goes.reads_rise slot in let same = ap (λ (counts : ℕ → ℕ). counts slot) same_reads in omega (arith, up, same)) (rise slot)
         (subst (λ (counts : ℕ → ℕ). Rose (counts slot) (behind.failed_reads slot)) same_reads failed)
 
@@ -164,7 +162,7 @@ module _ {D : Type 0} (tells : Type 0) (doing : Doing) (steady : IsSteady doing)
         is_seat = stops.is_seat;
         there = seat_there doing (work_of tells old behind) found timestamp word request from.seats slot stops.is_seat;
         stopped = ⊎_elim
-            (λ rose. inl (rose_later (old.failed_writes slot) (opened.failed_writes slot) (behind.failed_writes slot) (opened_rise slot) rose))
+            (λ rose. inl (rose_since (old.failed_writes slot) (opened.failed_writes slot) (behind.failed_writes slot) (opened_rise slot) rose))
             (λ none. inr (
               subst (λ (v : Volume). doing.NoneLeft (Failed old behind) v slot) (sym volume_is)
                   (steady.more_left (Failed opened behind) (Failed old behind) (more_failed behind (λ s. omega arith)) volume slot none),
@@ -240,7 +238,7 @@ module _ {D : Type 0} (tells : Type 0) (doing : Doing) (steady : IsSteady doing)
     -- the histories
     module _ (left : List Bool) (named : Option (List ℕ)) (by : IsFoundBy old left named found) (steps : List Step) (are : readied found changes timestamp ≡ Ok steps) where
       all_steps : opens.steps ++ last ≡ steps
-      all_steps = same_steps (readied found changes timestamp) (opens.steps ++ last) steps opens.are_all are
+      all_steps = same_ok_value (readied found changes timestamp) (opens.steps ++ last) steps opens.are_all are
 
       pub work_keeps : tells → KeepsHistories old behind left found steps false
       work_keeps told group same past kept admitted =
@@ -353,7 +351,7 @@ module _ {D : Type 0} (tells : Type 0) (doing : Doing) (steady : IsSteady doing)
                 plan = plan;
                 is_seat = is_seat;
                 there = seat_there doing all found timestamp word request from.seats slot is_seat;
-                stopped = inl (rose_later (old.failed_writes slot) (behind.failed_writes slot) (new.failed_writes slot)
+                stopped = inl (rose_since (old.failed_writes slot) (behind.failed_writes slot) (new.failed_writes slot)
                     (let one = opened_rise slot in let two = works.goes.writes_rise slot in omega (arith, one, two)) rose);
               }
 

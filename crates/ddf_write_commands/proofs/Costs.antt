@@ -1,5 +1,6 @@
 -- How many sectors are asked for around the blocks of an array and of these: the calls one behind another.
 use Rattle.std.proofs.Common.{◌≡◌, ◌∙◌, ℕ, ◌+◌, ◌≤◌, Bool, true, false, List, [], ◌∷◌, ◌++◌, length, Option, Some, None, Result, Ok, Err, refl, sym, ap, subst, inl, arith}
+use Rattle.ddf_lemmas.proofs.Options.{ok_is}
 use Rattle.ddf_bay.specs.Moments.{Costs}
 use Rattle.ddf_bay.specs.ReadsOnly.{ReadsOnly}
 use Rattle.ddf_bay.specs.State.{BayState}
@@ -27,12 +28,11 @@ use Rattle.ddf_write_commands.specs.Costs.{CostsOfDoing, CostsOfPlan, sectors_be
 use Rattle.ddf_write_commands.specs.Doing.{Doing}
 use Rattle.ddf_write_commands.specs.Planned.{Entry, Refusing, request_around}
 use Rattle.ddf_write_commands.specs.Plans.{IsPlanOf}
-use Rattle.ddf_write_commands.proofs.OnePlan.{same_ok}
 use Rattle.ddf_write_commands.proofs.PlanKept.{IsPlannedAs, steps_are}
 
 -- ---- the steps before the blocks
 
-abbrev with_steps : Option ReadyStep → List ReadyStep → ReadyValue
+abbrev pub with_steps : Option ReadyStep → List ReadyStep → ReadyValue
 with_steps recovery steps = record { recovery = recovery; steps = steps }
 
 pub before_add : (begins : Bool) (recovery : Option ReadyStep) (steps : List ReadyStep)
@@ -85,7 +85,7 @@ module _ {D : Type 0} (tells : Type 0) (group : GroupValue) (changes : List Chan
     (steps : List Step) (are : readied group changes timestamp ≡ Ok steps) {old opened : BayState D} (opens : WritesAtMost (work_of tells old opened) (sectors_before begins ready)) where
   total : ready_sectors (all_ready ready) ≡ steps_sectors steps
   total =
-      let same : steps_in (all_ready ready) ≡ steps = same_ok (sym was.is_readied ∙ are) in
+      let same : steps_in (all_ready ready) ≡ steps = ok_is (sym was.is_readied ∙ are) in
       ready_count group changes timestamp ready was ∙ ap steps_sectors same
 
   -- The steps before weren't written,

@@ -9,7 +9,7 @@ pub mod Courses
 pub mod Opening
 pub mod Closing
 pub mod SlotsThere
-mod PlanKept
+pub mod PlanKept
 mod PlanMade
 mod Works
 pub mod Costs
@@ -19,7 +19,7 @@ mod ResyncWorks
 mod Between
 pub mod Arrays
 mod ResyncArray
-mod Sparing
+pub mod Sparing
 mod ResyncBlocks
 mod PlanWritten
 mod MarkedCells
@@ -34,6 +34,6 @@ mod BehindLook
 mod Surely
 mod WriteLooked
 mod FirstPiece
-mod WriteCalls
+pub mod WriteCalls
 mod WriteTaken
 mod WriteCame

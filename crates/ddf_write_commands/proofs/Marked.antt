@@ -1,6 +1,6 @@
 -- The view of an array once it is marked: it is the view before but for the mark, and for rows that were rebuilt.
 use Rattle.std.proofs.Common.{◌≡◌, ℕ, ◌+◌, ◌/◌, ◌%◌, ◌==◌, Bool, true, false, not, ◌&&◌, ◌||◌, cond, List, [], ◌∷◌, length, map, Option, Some, None, Ok, option_map, nat_le, refl, sym, ap, subst, ◌∙◌, if◌then◌else◌, eqb, arith}
-use Rattle.std.proofs.lemmas.Bool.{false≢true}
+use Rattle.std.proofs.lemmas.Bool.{and_parts, not-false}
 use Rattle.std.proofs.lemmas.List.{length-map}
 use Rattle.std.proofs.lemmas.List.Folds.{list_all-map}
 use Rattle.std.specs.Prelude.{filter_map, fold}
@@ -8,6 +8,7 @@ use Rattle.std.specs.List.{cons_option, list_all, list_any}
 use Rattle.std.specs.Map.{lookup}
 use Rattle.std.specs.Result.{result_ok}
 use Rattle.std.specs.Cmp.Lexicographic.{pointwise}
+use Rattle.ddf_lemmas.proofs.Options.{some_is}
 use Rattle.ddf_primary.specs.Placement.{Placement}
 use Rattle.ddf_primary.specs.declared.need.Need.{Need}
 use Rattle.ddf_primary.specs.declared.need.Need.TheVariants.{All, One, AllButOne, Neighbours}
@@ -55,9 +56,6 @@ cleared_place place = record place { row = 0 }
 
 abbrev pub cleared : Part → Part
 cleared part = record part { places = map cleared_place part.places }
-
-some_is : {A : Type 0} {one other : A} → ◌≡◌ {A = Option A} (Some one) (Some other) → one ≡ other
-some_is e = cc
 
 places_cleared : (seats : List Seat) (blocks : ℕ) (positions : List Position) → map (place_of seats blocks) (map without_row positions) ≡ map cleared_place (map (place_of seats blocks) positions)
 places_cleared seats blocks [] = refl
@@ -231,11 +229,6 @@ module _ (config : Configuration) (guid : List ℕ) (seats : List Seat) (volume 
 
 -- ---- a mark that is there already
 
-same_two : (e other : Bool) → (e && other) ≡ true → (e ≡ true) × (other ≡ true)
-same_two true true both = (refl, refl)
-same_two true false both = absurd (false≢true both)
-same_two false other both = absurd (false≢true both)
-
 -- the array that a test finds is the same behind what a change makes of each
 pub record IsSameFound (k : List ℕ → Array → Array) (test : List ℕ → Bool) (entries : List (List ℕ × Array)) (array : Array) : Type 0 where
   pub guid : List ℕ
@@ -248,7 +241,7 @@ found_same k test [] array same found = absurd cc
 found_same k test (entry ∷ entries) array same found = by (test entry.0) refl (found_same k test entries array both.1) found
   where
     both : (same_array entry (entry.0, k entry.0 entry.1) ≡ true) × (pointwise same_array entries (changed_entries (λ g a. Some (k g a)) entries) ≡ true)
-    both = same_two (same_array entry (entry.0, k entry.0 entry.1)) (pointwise same_array entries (changed_entries (λ g a. Some (k g a)) entries)) same
+    both = and_parts (same_array entry (entry.0, k entry.0 entry.1)) (pointwise same_array entries (changed_entries (λ g a. Some (k g a)) entries)) same
 
     by : (b : Bool) → test entry.0 ≡ b → (lookup test entries ≡ Some array → IsSameFound k test entries array) → cond b (Some entry.1) (lookup test entries) ≡ Some array
         → IsSameFound k test (entry ∷ entries) array
@@ -264,10 +257,6 @@ found_same k test (entry ∷ entries) array same found = by (test entry.0) refl 
           same = rest.same;
         }
 
-not_false : (b : Bool) → not b ≡ false → b ≡ true
-not_false true e = refl
-not_false false e = absurd (false≢true (sym e))
-
 same_state : (guid : List ℕ) (one other : Array) → same_array (guid, one) (guid, other) ≡ true → one.state ≡ other.state
 same_state guid one other same = grind (arith, same)
 
@@ -277,8 +266,8 @@ module _ (config : Configuration) (guid : List ℕ) (array : Array) (there : loo
   unfolding same_tables
   was_marked unstepped =
       let all = extents (kept_and_added config (Mark guid)) in
-      let tables = not_false (same_tables config (changed config (Mark guid))) unstepped in
-      let arrays = (same_two (pointwise same_member config.members (members_after config (Mark guid))) (pointwise same_array config.arrays (arrays_after config (Mark guid))) tables).1 in
+      let tables = not-false (same_tables config (changed config (Mark guid))) unstepped in
+      let arrays = (and_parts (pointwise same_member config.members (members_after config (Mark guid))) (pointwise same_array config.arrays (arrays_after config (Mark guid))) tables).1 in
       let found = found_same (one_after config (Mark guid) all) (same_guid guid) config.arrays array
       (subst (λ (entries : List (List ℕ × Array)). pointwise same_array config.arrays entries ≡ true) (table_is config (Mark guid) refl) arrays) there in
       let set = is_set config guid array there in

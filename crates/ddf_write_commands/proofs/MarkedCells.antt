@@ -4,6 +4,7 @@ use Rattle.std.proofs.Math.Path.{fun_ext}
 use Rattle.std.proofs.lemmas.List.{length-map}
 use Rattle.std.specs.Prelude.{◌&&◌, ◌==◌, ◌||◌, filter_map, fold, option_map, option_to_list, unwrap_or, if◌then◌else◌}
 use Rattle.std.specs.List.{flat_map, list_any, range_with_len}
+use Rattle.ddf_lemmas.proofs.Lists.{in_map, mapped_at}
 use Rattle.ddf_bay.specs.Sectors.{Image}
 use Rattle.ddf_parity.specs.Xor.{zeros}
 use Rattle.ddf_secondary.specs.declared.spot.Spot.{Spot}
@@ -27,7 +28,6 @@ use Rattle.ddf_write.specs.Keeping.{AllAreKept, AreTheirValues, Keeping}
 use Rattle.ddf_write.specs.Looking.{ArePiecesKept, EndWithStripes, IsSplit, LiesBeside, blocks_of_stripes, in_stripes_of, no_more, one_more, piece_blocks, piece_of}
 use Rattle.ddf_write.specs.RowWrites.{IsSure, keeps_parity_anywhere, keeps_parity_in}
 use Rattle.ddf_write.specs.Writing.{IsTouched}
-use Rattle.ddf_rewrite.proofs.Lists.{get_map, map_get}
 use Rattle.ddf_write_commands.proofs.Marked.{cleared, cleared_place, with_mark}
 
 -- ---- places
@@ -174,7 +174,7 @@ module _ (v : Volume) where
 
   cell_on : (element : ℕ) (part : Part) (position sector : ℕ) → IsDataCell v element part position sector → IsDataCell w element (cleared part) position sector
   cell_on element part position sector is = record {
-    is_part = get_map cleared v.parts element part is.is_part;
+    is_part = mapped_at cleared v.parts element part is.is_part;
     keeps = is.keeps;
     is_position = subst (λ (n : ℕ). position < n) (sym (length-map part.places cleared_place)) is.is_position;
     below = is.below;
@@ -183,7 +183,7 @@ module _ (v : Volume) where
 
   cell_back : (element : ℕ) (part : Part) (position sector : ℕ) → IsDataCell w element part position sector → (own : Part) × (cleared own ≡ part) × IsDataCell v element own position sector
   cell_back element part position sector is =
-      let at = map_get cleared v.parts element part is.is_part in
+      let at = in_map cleared v.parts element part is.is_part in
       let own : IsDataCell w element (cleared at.0) position sector = subst (λ (one : Part). IsDataCell w element one position sector) (sym at.2) is in (
         at.0,
         at.2,
@@ -228,7 +228,7 @@ module _ (v : Volume) where
   split_marked start count each ahead split = record {
     element = split.element;
     part = cleared split.part;
-    is_part = get_map cleared v.parts split.element split.part split.is_part;
+    is_part = mapped_at cleared v.parts split.element split.part split.is_part;
     keeps = split.keeps;
     sector = split.sector;
     one = touched_on start count split.element split.sector split.one;
@@ -281,8 +281,8 @@ module _ (v : Volume) where
     position = on.position;
     part = cleared on.part;
     place = cleared_place on.place;
-    is_part = get_map cleared v.parts on.element on.part on.is_part;
-    is_place = get_map cleared_place on.part.places on.position on.place on.is_place;
+    is_part = mapped_at cleared v.parts on.element on.part on.is_part;
+    is_place = mapped_at cleared_place on.part.places on.position on.place on.is_place;
     is_synced = on.is_synced;
     is_there = on.is_there;
   }
@@ -293,7 +293,7 @@ module _ (v : Volume) where
     position = cell.position;
     sector = cell.sector;
     part = cleared cell.part;
-    is_part = get_map cleared v.parts cell.element cell.part cell.is_part;
+    is_part = mapped_at cleared v.parts cell.element cell.part cell.is_part;
     below = cell.below;
     is_site = site_same cell.part.places cell.position cell.sector ∙ cell.is_site;
   }
@@ -303,7 +303,7 @@ module _ (v : Volume) where
     agree = λ block k source at.
         sym (value_same image block) ∙ is.agree block k source (subst (λ (all : List Source). slice_get all k ≡ Some source) (sym (every_same block)) at);
     sum_to_zero = λ element sector part sites at keeps below whole.
-        is.sum_to_zero element sector (cleared part) sites (get_map cleared v.parts element part at) keeps below (whole_of part sector ∙ whole);
+        is.sum_to_zero element sector (cleared part) sites (mapped_at cleared v.parts element part at) keeps below (whole_of part sector ∙ whole);
   }
 
   pub sure_unmarked : (failed : ℕ → Type 0) (image : Image) → IsSure failed w image → IsSure failed v image

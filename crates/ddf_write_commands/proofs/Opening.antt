@@ -34,7 +34,7 @@ use Rattle.ddf_history_steps.specs.Kept.{AreAllKept, is_slot}
 use Rattle.ddf_history_steps.specs.Steps.{IsCommit, IsRecovery, WasTaken, recovery_changes}
 use Rattle.ddf_history_steps.proofs.Slots.{slot_is}
 use Rattle.ddf_history_steps.specs.Course.{IsUnderWay, changes_ready}
-use Rattle.ddf_history_steps.proofs.Course.{changes_parts}
+use Rattle.ddf_history_steps.proofs.Course.{changes_parts, configs_of}
 use Rattle.ddf_history_steps.proofs.Floored.{next_floored, recovered_floored}
 use Rattle.ddf_group_commands.specs.Change.{KeepsHistories}
 use Rattle.ddf_group_commands.specs.GroupRead.{IsFoundBy, IsReadFrom}
@@ -51,7 +51,7 @@ use Rattle.ddf_write_commands.specs.Around.{IsMark, front, rest}
 use Rattle.ddf_write_commands.specs.Opened.{AreMembers, AreUnderWay, IsOpened}
 use Rattle.ddf_write_commands.proofs.Courses.{commit_fails, commits, recovers, recovery_fails}
 use Rattle.ddf_bay.specs.Told.{IsTold}
-use Rattle.ddf_write_commands.proofs.Parts.{configs_of, issued_parts}
+use Rattle.ddf_history_steps.proofs.CommittingGoes.{changes_of_both}
 use Rattle.ddf_write_commands.proofs.Splitting.{all_parts, all_readied, config_is, first_readied, seats_same, split, was_first}
 
 -- ---- one step, and those behind it
@@ -178,7 +178,7 @@ module _ {D : Type 0} (tells : Type 0) (old : BayState D) (found : GroupValue) (
   issues_last : changes_in found (steps_in (rest marks ready.steps)) ≡ configs_of (rest marks ready.steps)
   issues_last =
       append_cancel_left (changes_ready found before) (changes_in found (steps_in (rest marks ready.steps))) (configs_of (rest marks ready.steps))
-      (sym (issued_parts found (steps_in (all_ready before)) (steps_in (rest marks ready.steps)))
+      (sym (changes_of_both found (steps_in (all_ready before)) (steps_in (rest marks ready.steps)))
       ∙ ap (changes_in found) (sym (all_parts found changes timestamp ready was redundant marks marks_is mark few))
       ∙ changes_parts found changes timestamp ready was
       ∙ ap (λ (all : List Configuration). recovery_changes timestamp found ++ all) (configs_split marks ready.steps)

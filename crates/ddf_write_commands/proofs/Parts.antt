@@ -1,7 +1,6 @@
 -- A call on the blocks of an array is made of three parts: its first steps, its work, and its last step. By what histories tell of each its history comes as far as the call.
-use Rattle.std.proofs.Common.{◌≡◌, ◌∙◌, inl, inr, ⊎_elim, ℕ, ◌+◌, ◌≤◌, ◌==◌, not, Bool, true, false, List, [], ◌∷◌, ◌++◌, length, map, filter, refl, sym, ap, subst, arith}
-use Rattle.std.proofs.lemmas.List.{append_cancel_right, map-append}
-use Rattle.std.proofs.lemmas.List.Elements.{filter-append}
+use Rattle.std.proofs.Common.{◌≡◌, ◌∙◌, inl, inr, ⊎_elim, ℕ, ◌+◌, ◌≤◌, Bool, true, false, List, [], ◌∷◌, ◌++◌, length, refl, sym, ap, subst, arith}
+use Rattle.std.proofs.lemmas.List.{append_cancel_right}
 use Rattle.ddf_bay.specs.Moments.{StopsLeave}
 use Rattle.ddf_bay.specs.Sectors.{Image, IsLeft}
 use Rattle.ddf_bay.specs.State.{BayState}
@@ -15,7 +14,6 @@ use Rattle.ddf_seats.specs.Group.{GroupValue}
 use Rattle.ddf_steps.specs.Ready.{ReadyStep}
 use Rattle.ddf_recovery.specs.Ready.{ReadyValue}
 use Rattle.ddf_seats.specs.Seated.{seated}
-use Rattle.ddf_steps.specs.Steps.{Step}
 use Rattle.ddf_history_steps.specs.Going.{Goes, IsOver, KeepsHistory, changes_in, issue_all}
 use Rattle.ddf_history_steps.specs.Kept.{AreAllKept, is_read}
 use Rattle.ddf_history_steps.specs.Steps.{IsCommit, KeepsStep, behind_next, with_next}
@@ -35,17 +33,9 @@ use Rattle.ddf_write_commands.specs.Planned.{IsPlanned}
 use Rattle.ddf_write_commands.specs.Worked.{IsLeftClosing, IsLeftWorking}
 use Rattle.ddf_write_commands.proofs.Courses.{writes}
 use Rattle.ddf_bay.specs.Told.{IsTold}
+use Rattle.ddf_history_steps.proofs.CommittingGoes.{changes_of_both}
+use Rattle.ddf_history_steps.proofs.Course.{configs_of}
 use Rattle.ddf_group_commands.proofs.LeftWriting.{left_still}
-
--- what the steps issue is what the first of them issue, and then the others
-pub issued_parts : (found : GroupValue) (one other : List Step) → changes_in found (one ++ other) ≡ changes_in found one ++ changes_in found other
-issued_parts found one other =
-    let raises = λ (step : Step). not (step.config.sequence == found.config.sequence) in
-    ap (map (λ (step : Step). step.config)) (filter-append raises one other) ∙ map-append (λ (step : Step). step.config) (filter raises one) (filter raises other)
-
--- the configurations that steps that are ready make
-abbrev pub configs_of : List ReadyStep → List Configuration
-configs_of steps = map (λ (one : ReadyStep). one.step.config) steps
 
 -- the next step, issued and acknowledged, where at most one is left
 module _ (group : List ℕ) (past : Past (groups group)) where
@@ -105,7 +95,7 @@ module _ {D : Type 0} (tells : Type 0) (group : List ℕ) (past : Past (groups g
     first_over : {disks : BayState D} (come : Come group past left found (changes_in found (plan.first ++ plan.last)) disks now_found ready) → IsOver group past (is_read left) found (changes_in found plan.first) come.now
     first_over come =
         let parts : changes_in found plan.first ++ configs_of ready.steps ≡ come.first ++ configs_of ready.steps =
-        ap (λ (last : List Configuration). changes_in found plan.first ++ last) (sym issues) ∙ sym (issued_parts found plan.first plan.last) ∙ come.parts in
+        ap (λ (last : List Configuration). changes_in found plan.first ++ last) (sym issues) ∙ sym (changes_of_both found plan.first plan.last) ∙ come.parts in
         subst (λ (all : List Configuration). IsOver group past (is_read left) found all come.now) (sym (append_cancel_right (changes_in found plan.first) come.first (configs_of ready.steps) parts)) come.is_over
 
     opening_stops : StopsLeave old opened (IsAlong group doing (work_of tells old new) past left found plan)

@@ -5,6 +5,7 @@ use Rattle.std.specs.Prelude.{option_map, slice_get}
 use Rattle.std.specs.List.{AllByRecursion, list_any}
 use Rattle.std.specs.Map.{lookup}
 use Rattle.std.specs.Option.{option_and_then}
+use Rattle.ddf_lemmas.proofs.Options.{ok_is}
 use Rattle.ddf_config.specs.declared.array.Array.{Array}
 use Rattle.ddf_config.specs.declared.refusal.Refusal.{Refusal}
 use Rattle.ddf_config.specs.declared.seat.Seat.{Seat}
@@ -50,24 +51,21 @@ use Rattle.ddf_write_commands.proofs.Staying.{mark_keeps, member_there}
 
 -- ---- small things
 
-same_ok : {A B : Type 0} {one other : A} → ◌≡◌ {A = Result A B} (Ok one) (Ok other) → one ≡ other
-same_ok e = cc
-
 -- An array that a word names is the one of its GUID.
-named_by : (arrays : List (List ℕ × Array)) (guid : List ℕ) (entry : Entry) (found : Option Array) → lookup (same_guid guid) arrays ≡ found
+pub named_by : (arrays : List (List ℕ × Array)) (guid : List ℕ) (entry : Entry) (found : Option Array) → lookup (same_guid guid) arrays ≡ found
     → option_map (λ array. (guid, array)) found ≡ Some entry → lookup (same_guid entry.0) arrays ≡ Some entry.1
 named_by arrays guid entry None is e = absurd cc
 named_by arrays guid entry (Some array) is e =
     let same : (guid, array) ≡ entry = cc in
     subst (λ (one : Entry). lookup (same_guid one.0) arrays ≡ Some one.1) same is
 
-named_in : (arrays : List (List ℕ × Array)) (entry : Entry) (guid : Option (List ℕ)) → option_and_then (with_array arrays) guid ≡ Some entry
+pub named_in : (arrays : List (List ℕ × Array)) (entry : Entry) (guid : Option (List ℕ)) → option_and_then (with_array arrays) guid ≡ Some entry
     → lookup (same_guid entry.0) arrays ≡ Some entry.1
 named_in arrays entry None e = absurd cc
 named_in arrays entry (Some guid) e = named_by arrays guid entry (lookup (same_guid guid) arrays) refl e
 
 -- No slot has two seats.
-rise_apart : (seats : List Seat) → SlotsRise seats → (j k : ℕ) (one other : Seat) → slice_get seats j ≡ Some one → slice_get seats k ≡ Some other → one.slot ≡ other.slot → one.reference ≡ other.reference
+pub rise_apart : (seats : List Seat) → SlotsRise seats → (j k : ℕ) (one other : Seat) → slice_get seats j ≡ Some one → slice_get seats k ≡ Some other → one.slot ≡ other.slot → one.reference ≡ other.reference
 rise_apart [] rise j k one other at there same = absurd cc
 rise_apart (first ∷ seats) rise zero zero one other at there same =
     let here : one ≡ other = cc in ap (λ (seat : Seat). seat.reference) here
@@ -126,8 +124,8 @@ module _ (behind : Entry → List Change) (config : Configuration) (seats : List
   either P plain marked = by (marks config entry) refl
     where
       by : (b : Bool) → marks config entry ≡ b → P plan.view
-      by true e = subst P (same_ok (sym (marked_view config entry.0 seats is.before is.is_before config.sequence) ∙ marked_by true e)) marked
-      by false e = subst P (same_ok (sym is.is_before ∙ marked_by false e)) plain
+      by true e = subst P (ok_is (sym (marked_view config entry.0 seats is.before is.is_before config.sequence) ∙ marked_by true e)) marked
+      by false e = subst P (ok_is (sym is.is_before ∙ marked_by false e)) plain
 
   told_before : is_redundant is.before ≡ is_array_redundant entry.1
   told_before = told_redundant config entry.0 seats is.before entry.1 is.is_before named
@@ -264,7 +262,7 @@ module _ (found : GroupValue) (refusing : Refusing) (behind : Entry → List Cha
     pub planned_by : (before last : List Step) → readied found (front plan.redundant plan.changes) timestamp ≡ Ok before → readied found plan.changes timestamp ≡ Ok (before ++ last)
         → IsPlannedAs found timestamp word (request_around refusing behind word) before last plan.view
     planned_by before last are_first are_all =
-        let same : first ≡ before = same_ok (sym is_first ∙ are_first) in
+        let same : first ≡ before = ok_is (sym is_first ∙ are_first) in
         record {
           planned = record {
             entry = entry;

@@ -1,10 +1,12 @@
 -- How it is planned what is written around the blocks of an array, or why it isn't.
-use Rattle.std.proofs.Common.{◌≡◌, ℕ, Bool, true, false, not, ◌||◌, List, [], ◌∷◌, ◌++◌, Option, Some, None, Result, Ok, Err, refl, sym, ap, subst, ◌∙◌, if◌then◌else◌}
+use Rattle.std.proofs.Common.{◌≡◌, ℕ, Bool, true, false, not, List, [], ◌∷◌, ◌++◌, Option, Some, None, Result, Ok, Err, refl, sym, ap, subst, ◌∙◌, if◌then◌else◌}
 use Rattle.std.proofs.lemmas.Bool.{false≢true}
 use Rattle.std.specs.Prelude.{option_to_list, unwrap_or}
 use Rattle.std.specs.List.{list_any}
 use Rattle.std.specs.Map.{lookup}
 use Rattle.std.specs.Option.{option_or}
+use Rattle.std.proofs.Math.Bool.{or-false}
+use Rattle.ddf_lemmas.proofs.Options.{ok_is, some_is}
 use Rattle.ddf_config.specs.declared.array.Array.{Array}
 use Rattle.ddf_config.specs.declared.refusal.Refusal.{Refusal}
 use Rattle.ddf_config.specs.declared.refusal.Refusal.TheVariants.{Lost, Unsure}
@@ -18,6 +20,7 @@ use Rattle.ddf_plan.specs.declared.change.Change.{Change}
 use Rattle.ddf_plan.specs.declared.change.Change.TheVariants.{Mark}
 use Rattle.ddf_plan.specs.Changes.{changed, changed_at}
 use Rattle.ddf_plan.specs.Same.{is_step, same_tables}
+use Rattle.ddf_plan.proofs.Afters.{last_pass}
 use Rattle.ddf_array.specs.Viewing.{is_array_redundant, is_array_within, view_of}
 use Rattle.ddf_array.specs.Volume.{IsVolume, Volume}
 use Rattle.ddf_array.specs.Within.{is_redundant, is_within}
@@ -42,12 +45,6 @@ use Rattle.ddf_write_commands.specs.Resync.{resync_behind, resync_refusals}
 use Rattle.ddf_write_commands.proofs.Marked.{marked_view, refusal_same, was_marked}
 use Rattle.ddf_write_commands.proofs.PlanKept.{either}
 use Rattle.ddf_read_commands.proofs.ArrayUse.{named_is}
-
-some_is : {A : Type 0} {one other : A} → ◌≡◌ {A = Option A} (Some one) (Some other) → one ≡ other
-some_is e = cc
-
-same_ok : {A B : Type 0} {one other : A} → ◌≡◌ {A = Result A B} (Ok one) (Ok other) → one ≡ other
-same_ok e = cc
 
 -- ---- an array that can't be used
 
@@ -140,19 +137,11 @@ module _ (config : Configuration) (seats : List Seat) (word : List ℕ) (used : 
   resync_plan none result is =
       plan_of Reads 0 0 more_of_resync resync_behind config seats word used usable (more_is ∙ none_as (is_within used.1) (is_degraded used.1) none) result is
 
--- Of what is planned nothing is refused once the array is marked.
-none_of_more : (xs ys : List (Option Refusal)) → first_refusal (xs ++ ys) ≡ None → first_refusal ys ≡ None
-none_of_more xs ys none = by (first_refusal xs) refl
-  where
-    by : (first : Option Refusal) → first_refusal xs ≡ first → first_refusal ys ≡ None
-    by None e = sym (first_append xs ys ∙ ap (λ (r : Option Refusal). option_or r (first_refusal ys)) e) ∙ none
-    by (Some refusal) e = let is = sym (first_append xs ys ∙ ap (λ (r : Option Refusal). option_or r (first_refusal ys)) e) ∙ none in absurd cc
-
 pub resync_accepted : (config : Configuration) (seats : List Seat) (word : List ℕ) (plan : Plan) → IsPlanOf resync_refusals resync_behind config seats word plan → resync_refusal plan.view ≡ None
 resync_accepted config seats word plan is =
     let entry = is.entry in
     let found = named_is config.arrays word entry is.is_named in
-    let more = none_of_more (array_refusals Reads config seats entry.0 entry.1 0 0) (more_of_resync config seats entry) is.accepted in
+    let more = last_pass (array_refusals Reads config seats entry.0 entry.1 0 0) (more_of_resync config seats entry) is.accepted in
     let within = told_within config entry.0 seats is.is_for.before entry.1 is.is_for.is_before found in
     let before : resync_refusal is.is_for.before ≡ None =
     none_back (is_within is.is_for.before) (is_degraded is.is_for.before)
@@ -166,10 +155,6 @@ resync_accepted config seats word plan is =
 pub same_numbered : (config : Configuration) (change : Change) (sequence : ℕ) → same_tables config (changed_at config change sequence) ≡ same_tables config (changed config change)
 unfolding same_tables
 same_numbered config change sequence = refl
-
-or_false : (b : Bool) → (b || false) ≡ b
-or_false true = refl
-or_false false = refl
 
 module _ (config : Configuration) (seats : List Seat) (guid : List ℕ) (view : Volume) (is : view_of config guid seats ≡ Ok view) where
   -- what marking gives
@@ -221,7 +206,7 @@ module _ (config : Configuration) (seats : List Seat) (guid : List ℕ) (view : 
 
     -- of one that keeps it several times
     marked_next : (b : Bool) → b ≡ is_step config (Mark guid) → (next : Volume) → view_of (if b then changed_at config (Mark guid) config.sequence else config) guid seats ≡ Ok next → next.marked ≡ true
-    marked_next true step next viewed = ap (λ (v : Volume). v.marked) (sym (same_ok (sym (marked_view config guid seats view is config.sequence) ∙ viewed)))
+    marked_next true step next viewed = ap (λ (v : Volume). v.marked) (sym (ok_is (sym (marked_view config guid seats view is config.sequence) ∙ viewed)))
     marked_next false step next viewed =
         let viewed_as = from_view config guid seats next viewed in
         viewed_as.marked_is ∙ ap is_marked (some_is (sym viewed_as.array_is ∙ found)) ∙ was_marked config guid array found (sym step)
@@ -232,7 +217,7 @@ module _ (config : Configuration) (seats : List Seat) (guid : List ℕ) (view : 
     marked_plan several marked next unmarked step viewed was known known_before changes changes_are =
         let all = sym redundant_is ∙ several in
         let mark = marking_as true all in
-        let steps : marks config item ≡ marked = ap (list_any (is_step config)) mark ∙ or_false (is_step config (Mark guid)) ∙ sym step in
+        let steps : marks config item ≡ marked = ap (list_any (is_step config)) mark ∙ or-false (is_step config (Mark guid)) ∙ sym step in
         record {
           changes = changes_are ∙ ap (λ (rest : List Change). Mark guid ∷ rest) (sym after_is) ∙ ap (λ (first : List Change). first ++ after item) (sym mark);
           before = view;

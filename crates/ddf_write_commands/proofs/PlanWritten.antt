@@ -1,11 +1,11 @@
 -- How a write of blocks is planned, or why it isn't.
-use Rattle.std.proofs.Common.{◌≡◌, ℕ, ◌+◌, ◌≤◌, Bool, true, false, not, ◌&&◌, ◌||◌, List, [], ◌∷◌, ◌++◌, Option, Some, None, Result, Err, refl, sym, ap, ◌∙◌, if◌then◌else◌, length, arith}
+use Rattle.std.proofs.Common.{◌≡◌, ℕ, ◌+◌, ◌≤◌, Bool, true, false, not, ◌||◌, List, [], ◌∷◌, ◌++◌, Option, Some, None, Result, Err, refl, sym, ap, ◌∙◌, if◌then◌else◌, length, arith}
 use Rattle.std.proofs.lemmas.Bool.{false≢true, or_left, or_right}
 use Rattle.std.specs.Prelude.{nat_lt}
 use Rattle.std.specs.List.{AllByRecursion, list_any}
 use Rattle.std.specs.Map.{lookup}
 use Rattle.std.specs.Option.{option_or}
-use Rattle.ddf_config.specs.declared.array.Array.{Array}
+use Rattle.ddf_lemmas.proofs.Options.{some_is}
 use Rattle.ddf_config.specs.declared.refusal.Refusal.{Refusal}
 use Rattle.ddf_config.specs.declared.refusal.Refusal.TheVariants.{Degraded, Held, Lost, Marked, Range}
 use Rattle.ddf_config.specs.declared.seat.Seat.{Seat}
@@ -44,10 +44,7 @@ use Rattle.ddf_write_commands.specs.Write.{write_behind, write_refusals}
 use Rattle.ddf_write_commands.proofs.Marked.{refusal_same}
 use Rattle.ddf_write_commands.proofs.PlanKept.{either}
 use Rattle.ddf_write_commands.proofs.PlanMade.{found_there, plan_of, refused_more, within_is}
-use Rattle.ddf_read_commands.proofs.ArrayUse.{named_is}
-
-some_is : {A : Type 0} {one other : A} → ◌≡◌ {A = Option A} (Some one) (Some other) → one ≡ other
-some_is e = cc
+use Rattle.ddf_read_commands.proofs.ArrayUse.{named_is, within_range}
 
 abbrev pub more_of_write : Configuration → List Seat → Entry → List (Option Refusal)
 more_of_write config seats entry =
@@ -98,11 +95,6 @@ second_of None None None (Some x) e h = absurd cc
 second_of None None None None (Some x) h = absurd cc
 second_of None None None None None h = (refl, refl)
 
-in_range : (complete passes : Bool) (capacity : ℕ) → refuse_if (complete && passes) (Range capacity) ≡ None → refuse_if (not complete) Lost ≡ None → passes ≡ false
-in_range true true capacity range whole = absurd cc
-in_range true false capacity range whole = refl
-in_range false passes capacity range whole = absurd cc
-
 none_of_three : (within marked lacks : Bool) → first_refusal (three within marked lacks) ≡ None
     → ◌≡◌ {A = Option VolumeFault} (if not within then Some volumes.Lost else (if lacks then Some volumes.Unsure else None)) None
 none_of_three false marked lacks e = absurd cc
@@ -146,7 +138,7 @@ module _ (start count : ℕ) (config : Configuration) (seats : List Seat) (word 
   range =
       let some = second_of (useless config seats entry.0 entry.1) (refuse_if (is_out_of_range entry.1 start count) (Range (array_capacity entry.1))) (bad_blocks seats entry.1)
       (refuse_if (is_forbidden Writes entry.1) Held) (refuse_if (not (is_complete entry.1)) Lost) both.0 in
-      in_range (is_complete entry.1) (nat_lt (array_capacity entry.1) (start + count)) (array_capacity entry.1) some.0 some.1
+      within_range (is_complete entry.1) (nat_lt (array_capacity entry.1) (start + count)) (array_capacity entry.1) some.0 some.1
 
   found : lookup (same_guid entry.0) config.arrays ≡ Some entry.1
   found = named_is config.arrays word entry is.is_named
@@ -195,10 +187,3 @@ few_behind entry = few_by (is_array_redundant entry.1) (Unmark entry.0 entry.1.i
 
 pub can_behind : (entry : Entry) → AllByRecursion CanBeAsked (write_behind entry)
 can_behind entry = can_by (is_array_redundant entry.1) entry.0 entry.1.init
-
--- One array is looked up.
-pub found_same : (one other : Array) → ◌≡◌ {A = Option Array} (Some one) (Some other) → one ≡ other
-found_same one other is = cc
-
-pub never_found : (array : Array) → ◌≡◌ {A = Option Array} None (Some array) → ⊥
-never_found array is = cc

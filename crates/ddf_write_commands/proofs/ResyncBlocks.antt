@@ -2,6 +2,7 @@
 use Rattle.std.proofs.Common.{◌≡◌, ◌∙◌, ◌⊎◌, ℕ, ◌≤◌, Bool, true, false, List, ◌++◌, Option, None, Result, Ok, Err, if◌then◌else◌, inl, inr, ⊎_elim, refl, ap, subst, sym, arith}
 use Rattle.std.proofs.lemmas.Bool.{false≢true}
 use Rattle.ddf_bytes.specs.Counts.{Rose}
+use Rattle.ddf_bytes.proofs.Common.{rose_behind}
 use Rattle.ddf_bay.specs.Moments.{GoesOn, StopsLeave}
 use Rattle.ddf_bay.specs.State.{BayState}
 use Rattle.ddf_bay.specs.Told.{IsTold}
@@ -30,7 +31,6 @@ use Rattle.ddf_answer.specs.declared.failure.Failure.TheVariants.{Disk}
 use Rattle.ddf_answer.specs.Call.{work_of}
 use Rattle.ddf_answer.specs.Costs.{WritesAtMost}
 use Rattle.ddf_answer.proofs.Costs.{none_written, writes_most}
-use Rattle.ddf_answer.proofs.Rises.{rose_still}
 use Rattle.ddf_read_commands.specs.Use.{failure_of_volume}
 use Rattle.ddf_group_commands.specs.Change.{IsChanged, KeepsHistories, is_done, steps_or}
 use Rattle.ddf_group_commands.specs.Costs.{steps_sectors}
@@ -117,7 +117,7 @@ module _ {D : Type 0} (tells : Type 0) (old : BayState D) (group : GroupValue) (
             (sym (same_volume group timestamp word (resync_request word) any_plan its_plan.planned ∙ its_plan.volume_is))
             (differed_since plan.view opened.held old opened behind new
             (λ slot failed.
-            rose_still (old.failed_reads slot) (behind.failed_reads slot) (new.failed_reads slot)
+            rose_behind (old.failed_reads slot) (behind.failed_reads slot) (new.failed_reads slot)
             (let up = goes.reads_rise slot in let same = ap (λ (counts : ℕ → ℕ). counts slot) same_reads in omega (arith, up, same)) (rise slot)
             (subst (λ (counts : ℕ → ℕ). Rose (counts slot) (behind.failed_reads slot)) same_reads failed))
             differed);

@@ -6,7 +6,7 @@ use Rattle.ddf_bay.specs.ReadsOnly.{ReadsOnly}
 use Rattle.ddf_bay.specs.Sectors.{Image, IsLeft}
 use Rattle.ddf_bay.specs.State.{BayState}
 use Rattle.ddf_bay.proofs.Looks.{reads_then}
-use Rattle.ddf_bay.proofs.Steps.{left_keeps, stops_then, stops_weaken}
+use Rattle.ddf_bay.proofs.Steps.{left_keeps, stops_then, stops_weaken, rose_since}
 use Rattle.ddf_plan.specs.declared.change.Change.{Change}
 use Rattle.ddf_array.specs.Volume.{Volume}
 use Rattle.ddf_read.specs.Reading.{Failed}
@@ -29,14 +29,14 @@ use Rattle.ddf_answer.specs.declared.failure.Failure.{Failure}
 use Rattle.ddf_answer.specs.declared.failure.Failure.TheVariants.{Conflict, Disk, Memory, Refused, Split}
 use Rattle.ddf_answer.specs.Answers.{failure_of}
 use Rattle.ddf_answer.specs.Call.{Work, work_of}
-use Rattle.ddf_answer.proofs.Rises.{look_still, rose_later}
+use Rattle.ddf_answer.proofs.Rises.{look_still}
 use Rattle.ddf_group_commands.specs.Change.{KeepsHistories, Request, TakesGroup, is_done, steps_asked, steps_of, steps_or}
 use Rattle.ddf_group_commands.specs.GroupRead.{IsFoundBy, IsGroupRead, group_or}
 use Rattle.ddf_group_commands.specs.Others.{LeavesOthers}
 use Rattle.ddf_group_commands.specs.Written.{AreWritten}
 use Rattle.ddf_group_commands.proofs.Beside.{beside_since, reads_beside}
 use Rattle.ddf_group_commands.proofs.Keeping.{reads_keep, since_entry}
-use Rattle.ddf_group_commands.proofs.Outcomes.{group_read, memory_told, unsynced_in, where_done}
+use Rattle.ddf_group_commands.proofs.Outcomes.{group_read, memory_told, unsynced_in, where_done, found_same}
 use Rattle.ddf_write_commands.specs.Along.{AllComeAlong, ComesAlong, GoesAlong, HasCome, IsAlong, IsLeftAt, Stage}
 use Rattle.ddf_write_commands.specs.Along.Stage.{Closing, Done, Opening, Working}
 use Rattle.ddf_write_commands.specs.Costs.{CostsOfDoing, CostsOfPlan}
@@ -92,9 +92,6 @@ pub record HasComeTo {D : Type 0} (doing : Doing) (work : Work D) (named : Optio
   pub leaves : work.tells → LeavesDoing doing work timestamp word request (group_of taken.newest named)
   pub along : work.tells → GoesAlong doing work taken.left timestamp word request (is_done outcome) (group_of taken.newest named)
   pub costs : CostsOfDoing doing work timestamp word request (group_of taken.newest named)
-
-found_same : (one other : GroupValue) → ◌≡◌ {A = Result GroupValue Assembly} (Ok one) (Ok other) → one ≡ other
-found_same one other is = cc
 
 -- What reads leave is what might have been left before.
 reads_left : {D : Type 0} (old new : BayState D) (P : Image → Type 0) → ReadsOnly old new → StopsLeave old new (λ image. IsLeft old.may_hold image ⊎ P image)
@@ -200,7 +197,7 @@ module _ {D : Type 0} (doing : Doing) (work : Work D) (named : Option (List ℕ)
 module _ {D : Type 0} (tells : Type 0) (doing : Doing) (steady : IsSteady doing) (old middle new : BayState D) (reads : ReadsOnly old middle)
     (reads_rise : (slot : ℕ) → old.failed_reads slot ≤ middle.failed_reads slot) (writes_rise : (slot : ℕ) → old.failed_writes slot ≤ middle.failed_writes slot) where
   more : (slot : ℕ) → Failed middle new slot → Failed old new slot
-  more slot failed = rose_later (old.failed_reads slot) (middle.failed_reads slot) (new.failed_reads slot) (reads_rise slot) failed
+  more slot failed = rose_since (old.failed_reads slot) (middle.failed_reads slot) (new.failed_reads slot) (reads_rise slot) failed
 
   held_more : (slots : List ℕ) (image : Image) (s l : ℕ) (bytes : List ℕ) → (holding middle slots image).may_hold s l bytes → (holding old slots image).may_hold s l bytes
   held_more slots image s l bytes left = ⊎_elim inl (λ other. inr (other.0, reads.keeps s l bytes other.1)) left
@@ -234,7 +231,7 @@ module _ {D : Type 0} (tells : Type 0) (doing : Doing) (steady : IsSteady doing)
     plan = is.plan;
     is_seat = is.is_seat;
     there = rw reads.same_sizes at is.there;
-    stopped = ⊎_elim (λ rose. inl (rose_later (old.failed_writes slot) (middle.failed_writes slot) (new.failed_writes slot) (writes_rise slot) rose))
+    stopped = ⊎_elim (λ rose. inl (rose_since (old.failed_writes slot) (middle.failed_writes slot) (new.failed_writes slot) (writes_rise slot) rose))
         (λ none. inr (steady.more_left (Failed middle new) (Failed old new) more is.plan.volume slot none.0, begun_since is.plan.first is.plan.volume none.1)) is.stopped;
   }
   worked_since group timestamp word request (Err Memory) is = reads_then reads is

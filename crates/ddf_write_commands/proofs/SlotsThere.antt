@@ -2,6 +2,7 @@
 use Rattle.std.proofs.Common.{◌≡◌, ◌∙◌, ⊎_elim, inl, inr, ap, Ok, ℕ, ◌+◌, ◌<◌, ◌&&◌, Bool, true, false, List, [], ◌∷◌, ◌++◌, length, map, Option, Some, None, refl, sym, subst, if◌then◌else◌}
 use Rattle.std.specs.Prelude.{is_some, option_map, option_to_list, slice_get}
 use Rattle.std.specs.Option.{option_and_then}
+use Rattle.ddf_lemmas.proofs.Lists.{mapped_at}
 use Rattle.ddf_bay.specs.State.{BayState}
 use Rattle.ddf_config.specs.declared.seat.Seat.{Seat}
 use Rattle.ddf_config.specs.Configuration.{Configuration}
@@ -21,7 +22,6 @@ use Rattle.ddf_read.proofs.SourceSlots.{slot_on}
 use Rattle.ddf_cells.specs.CellSources.{cell_sources}
 use Rattle.ddf_cells.specs.Without.{own_sources}
 use Rattle.ddf_resync.specs.Resyncing.{IsSetOn, IsStopped}
-use Rattle.ddf_rewrite.proofs.Lists.{get_map}
 use Rattle.ddf_update.specs.Group.{IsOneOf}
 use Rattle.ddf_steps.specs.Committed.{slots_of}
 use Rattle.ddf_seats.specs.Changing.{SlotsRise}
@@ -122,7 +122,7 @@ module _ (config : Configuration) (guid : List ℕ) (seats : List Seat) (v : Vol
   pub on_seats : (element : ℕ) (part : Part) → slice_get v.parts element ≡ Some part → AreOnSlots (IsOneOf (slots_of seats)) part
   on_seats element part is_part position place s at is_there =
       let seat = place_seat config guid seats v element position s part place is is_part at is_there in
-      record { place = seat.0; is_there = get_map (λ (one : Seat). one.slot) seats seat.0 seat.1.0 seat.1.1 ∙ ap Some seat.1.2 }
+      record { place = seat.0; is_there = mapped_at (λ (one : Seat). one.slot) seats seat.0 seat.1.0 seat.1.1 ∙ ap Some seat.1.2 }
 
   module _ (known : IsVolume v) (sizes : List ℕ) (rise : SlotsRise seats) (fit : SeatsFit sizes seats) where
     below_seat : (slot l : ℕ) → l < floor_in seats slot → IsOneOf (slots_of seats) slot

@@ -1,11 +1,13 @@
 -- A resync that asks for no sectors but those of its steps, where nothing differs.
-use Rattle.std.proofs.Common.{◌≡◌, ◌∙◌, ℕ, ◌≤◌, Bool, true, false, ◌||◌, List, [], ◌∷◌, ◌++◌, Option, Some, Ok, if◌then◌else◌, inl, inr, ⊎_elim, refl, ap, sym, arith}
+use Rattle.std.proofs.Common.{◌≡◌, ◌∙◌, ℕ, ◌≤◌, Bool, true, false, ◌||◌, List, [], ◌∷◌, ◌++◌, Some, Ok, if◌then◌else◌, inl, inr, ⊎_elim, refl, ap, sym, arith}
 use Rattle.std.proofs.lemmas.Bool.{false≢true}
 use Rattle.std.specs.List.{list_any}
 use Rattle.std.specs.Map.{lookup}
+use Rattle.ddf_lemmas.proofs.Options.{some_is}
 use Rattle.ddf_bay.specs.ReadsOnly.{ReadsOnly}
 use Rattle.ddf_bay.specs.Sectors.{Image}
 use Rattle.ddf_bay.specs.State.{BayState}
+use Rattle.ddf_bay.proofs.Steps.{rose_since}
 use Rattle.ddf_config.specs.Configuration.{Configuration}
 use Rattle.ddf_config.specs.Members.{same_guid}
 use Rattle.ddf_config.specs.States.{is_marked}
@@ -22,7 +24,6 @@ use Rattle.ddf_recovery.specs.Recovery.{config_recovered}
 use Rattle.ddf_steps.specs.Steps.{Step}
 use Rattle.ddf_answer.specs.Call.{Work, work_of}
 use Rattle.ddf_answer.proofs.Costs.{none_written, writes_most, writes_since}
-use Rattle.ddf_answer.proofs.Rises.{rose_later}
 use Rattle.ddf_read_commands.proofs.ArrayUse.{named_is}
 use Rattle.ddf_group_commands.specs.Costs.{steps_sectors}
 use Rattle.ddf_group_commands.specs.Written.{AreWritten}
@@ -34,9 +35,6 @@ use Rattle.ddf_write_commands.specs.Plans.{IsPlanOf}
 use Rattle.ddf_write_commands.specs.Resync.{SparesWhatAgrees, resync_behind, resync_refusals, resync_request}
 use Rattle.ddf_write_commands.proofs.Marked.{was_marked}
 use Rattle.ddf_write_commands.proofs.PlanKept.{redundant_view, steps_are}
-
-some_is : {A : Type 0} {one other : A} → ◌≡◌ {A = Option A} (Some one) (Some other) → one ≡ other
-some_is e = cc
 
 -- ---- to mark an array that isn't marked is a step
 
@@ -75,7 +73,7 @@ differed_since volume image a b c d more differed redundant = let failed = diffe
 pub spares_unwritten : {D : Type 0} (work : Work D) (found : GroupValue) (timestamp : ℕ) (word : List ℕ) → ReadsOnly work.old work.new → SparesWhatAgrees work found timestamp word
 spares_unwritten work found timestamp word reads any_plan unmarked = inl (writes_most (steps_sectors (any_plan.first ++ any_plan.last)) (omega arith) (none_written work reads))
 
-written_since : {D : Type 0} (old middle : BayState D) → ReadsOnly old middle → (steps : List Step) (image : Image) → AreWritten middle.sizes middle.held steps image → AreWritten old.sizes old.held steps image
+pub written_since : {D : Type 0} (old middle : BayState D) → ReadsOnly old middle → (steps : List Step) (image : Image) → AreWritten middle.sizes middle.held steps image → AreWritten old.sizes old.held steps image
 written_since old middle reads steps image written = rw (reads.same_sizes, reads.same_held) at written
 
 -- It read before.
@@ -87,6 +85,6 @@ spares_since tells old middle new reads rise found timestamp word spares any_pla
       before = behind.before;
       first_written = written_since old middle reads any_plan.first behind.before behind.first_written;
       has_differed = differed_since any_plan.volume behind.before old middle new new
-          (λ slot failed. rose_later (old.failed_reads slot) (middle.failed_reads slot) (new.failed_reads slot) (rise slot) failed) behind.has_differed;
+          (λ slot failed. rose_since (old.failed_reads slot) (middle.failed_reads slot) (new.failed_reads slot) (rise slot) failed) behind.has_differed;
     }))
     (spares any_plan unmarked)

@@ -3,6 +3,7 @@ use Rattle.std.proofs.Common.{◌≡◌, ℕ, zero, suc, ◌≤◌, Bool, true, 
 use Rattle.std.proofs.lemmas.List.{length-map}
 use Rattle.std.specs.Prelude.{option_map, option_to_list, slice_get}
 use Rattle.std.specs.List.{AllByRecursion, list_any}
+use Rattle.ddf_lemmas.proofs.Lists.{mapped_at}
 use Rattle.ddf_config.specs.declared.refusal.Refusal.{Refusal}
 use Rattle.ddf_config.specs.declared.refusal.Refusal.TheVariants as refusals
 use Rattle.ddf_config.specs.declared.refusal.FullTable.{FullTable}
@@ -13,7 +14,6 @@ use Rattle.ddf_plan.specs.declared.change.Change.{Change}
 use Rattle.ddf_plan.specs.declared.change.Change.TheVariants.{Mark}
 use Rattle.ddf_plan.specs.Same.{is_step}
 use Rattle.ddf_rewrite.specs.Before.{before}
-use Rattle.ddf_rewrite.proofs.Lists.{get_map}
 use Rattle.ddf_seats.specs.declared.fault.GroupFault.{GroupFault}
 use Rattle.ddf_seats.specs.declared.fault.GroupFault.TheVariants as faults
 use Rattle.ddf_seats.specs.declared.seated.Seated.{Seated}
@@ -254,7 +254,7 @@ module _ (group : GroupValue) (changes : List Change) (timestamp : ℕ) (ready :
       where
         stay : some group.absent ≡ true → (k : ℕ) (disk : Seated) → slice_get (seated group) k ≡ Some disk → stays_in (config_lost group) disk ≡ true
         stay absent k disk at =
-            let seat : slice_get group.seats k ≡ Some disk.seat = ap (λ (seats : List Seat). slice_get seats k) (sym was.assembled.are_seated) ∙ get_map (λ (one : Seated). one.seat) (seated group) k disk at in
+            let seat : slice_get group.seats k ≡ Some disk.seat = ap (λ (seats : List Seat). slice_get seats k) (sym was.assembled.are_seated) ∙ mapped_at (λ (one : Seated). one.seat) (seated group) k disk at in
             subst (λ (b : Bool). is_current (if b then config_lost group else group.config).members disk.seat.reference ≡ true) absent (members k disk.seat seat)
 
         lost : (b : Bool) → some group.absent ≡ b → (if b then seats_in one.step.disks else group.seats) ≡ group.seats
@@ -280,7 +280,7 @@ module _ (group : GroupValue) (changes : List Change) (timestamp : ℕ) (ready :
     marked_seats guid =
         seats_stay timestamp (before (views_in disks)) (config_after (config_recovered group) (Mark guid)) disks
         (λ k disk at.
-        let seat : slice_get group.seats k ≡ Some disk.seat = ap (λ (seats : List Seat). slice_get seats k) (sym disks_seats) ∙ get_map (λ (one : Seated). one.seat) disks k disk at in
+        let seat : slice_get group.seats k ≡ Some disk.seat = ap (λ (seats : List Seat). slice_get seats k) (sym disks_seats) ∙ mapped_at (λ (one : Seated). one.seat) disks k disk at in
         mark_keeps (config_recovered group) guid disk.seat.reference (members k disk.seat seat)) ∙ disks_seats
 
     next_seats : (marks : Bool) (steps : List ReadyStep)

@@ -1,11 +1,14 @@
 -- The seats of a group stay, through its recovery and through steps that lose no member: each of them is a current member's.
-use Rattle.std.proofs.Common.{◌≡◌, ℕ, zero, suc, ◌<◌, Bool, true, false, not, ◌||◌, cond, eqb, List, [], ◌∷◌, length, map, Option, Some, None, Ok, nat_eq, refl, sym, ap, subst, ◌∙◌, if◌then◌else◌, zero-add}
+use Rattle.std.proofs.Common.{◌≡◌, ℕ, suc, ◌<◌, Bool, true, false, not, ◌||◌, cond, eqb, List, [], ◌∷◌, length, map, Option, Some, None, Ok, nat_eq, refl, sym, ap, subst, ◌∙◌, if◌then◌else◌, zero-add}
 use Rattle.std.proofs.lemmas.Bool.{false≢true, and_parts, eq-eqb, eqb-true}
 use Rattle.std.proofs.lemmas.Option.{slice_get_within}
-use Rattle.std.specs.Prelude.{filter, find, filter_map, is_some, option_map, slice_get, unwrap_or}
-use Rattle.std.specs.List.{IsDistinct, cons_option, list_any}
+use Rattle.std.specs.Prelude.{filter, is_some, option_map, slice_get, unwrap_or}
+use Rattle.std.specs.List.{IsDistinct, list_any}
 use Rattle.std.specs.Map.{lookup}
-use Rattle.std.specs.Option.{option_and_then, option_map_or}
+use Rattle.std.specs.Option.{option_map_or}
+use Rattle.std.proofs.lemmas.Map.Keys.{any_passes_from_place}
+use Rattle.ddf_lemmas.proofs.Lists.{comes_first, filter_pass, filtered_passes, in_map}
+use Rattle.ddf_lemmas.proofs.Options.{some_is}
 use Rattle.ddf_tables.specs.declared.disks.DiskEntry.{DiskEntry}
 use Rattle.ddf_copy.specs.declared.copy.DiskCopy.{DiskCopy}
 use Rattle.ddf_copy.specs.declared.newest_copy.Newest.{Newest}
@@ -15,7 +18,7 @@ use Rattle.ddf_config.specs.Configuration.{Configuration}
 use Rattle.ddf_config.specs.Entries.{changed_entries}
 use Rattle.ddf_config.specs.Members.{is_current}
 use Rattle.ddf_plan.specs.declared.change.Change.{Change}
-use Rattle.ddf_plan.specs.declared.change.Change.TheVariants.{Lose, Mark}
+use Rattle.ddf_plan.specs.declared.change.Change.TheVariants.{Mark}
 use Rattle.ddf_plan.specs.Lose.{is_among}
 use Rattle.ddf_plan.specs.Members.{member_after, members_after}
 use Rattle.ddf_view.specs.Reading.{disks_in, member_entry_in, read}
@@ -28,7 +31,7 @@ use Rattle.ddf_group.specs.Shown.{shown_of}
 use Rattle.ddf_group.specs.Slots.{claimed, claims, claims_by, leaders, leading_view, leads, lists_disk_of, numbers, slot_at, view_in}
 use Rattle.ddf_rewrite.specs.Before.{Before}
 use Rattle.ddf_rewrite.proofs.AllWanted.{filter_map_get}
-use Rattle.ddf_rewrite.proofs.Lists.{all_at, get_range, map_get, or_true}
+use Rattle.ddf_rewrite.proofs.Lists.{all_at, get_range}
 use Rattle.ddf_rewrite.proofs.ReadCan.{same_names}
 use Rattle.ddf_seats.specs.declared.seated.Seated.{Seated}
 use Rattle.ddf_assembly.specs.Assembled.{IsAssembledGroup}
@@ -40,36 +43,12 @@ use Rattle.ddf_seats.specs.Seated.{seated, seats_in}
 use Rattle.ddf_steps.specs.Steps.{disks_after, rewritten, stays_in}
 use Rattle.ddf_assembly.proofs.AssembledLists.{first_of_reference}
 use Rattle.ddf_assembly.proofs.LeftMembers.{IsCurrentIn, read_current}
-use Rattle.ddf_seats.proofs.Lists.{filter_pass}
 use Rattle.ddf_assembly.proofs.Leaders.{leading_fit}
 use Rattle.ddf_history_steps.proofs.Begun.{IsMadeOf, found_named}
-use Rattle.ddf_history_steps.proofs.Filtered.{passes_kept}
 use Rattle.ddf_history_steps.proofs.Seats.{absent_are, group_made, seat_claims, view_at}
+use Rattle.ddf_history_steps.proofs.RecoveringLoss.{lose_leaves}
 
 -- ---- lists
-
-some_is : {A : Type 0} {one other : A} → ◌≡◌ {A = Option A} (Some one) (Some other) → one ≡ other
-some_is e = cc
-
--- The first item that passes a test, with what a function makes of it, is first among all that pass.
-first_kept : {X Y : Type 0} (f : X → Option Y) (test : X → Bool) (xs : List X) (y : Y) → option_and_then f (find test xs) ≡ Some y
-    → (rest : List Y) × (filter_map f (filter test xs) ≡ y ∷ rest)
-first_kept f test [] y is = absurd cc
-first_kept {X = X} {Y = Y} f test (x ∷ xs) y is = by (test x) is (first_kept f test xs y)
-  where
-    by : (b : Bool) → option_and_then f (cond b (Some x) (find test xs)) ≡ Some y
-        → (option_and_then f (find test xs) ≡ Some y → (rest : List Y) × (filter_map f (filter test xs) ≡ y ∷ rest))
-        → (rest : List Y) × (filter_map f (cond b (x ∷ filter test xs) (filter test xs)) ≡ y ∷ rest)
-    by true here later = (filter_map f (filter test xs), ap (λ (first : Option Y). cons_option first (filter_map f (filter test xs))) here)
-    by false there later = later there
-
--- What a test passes is among what it is asked of.
-any_at : {X : Type 0} (test : X → Bool) (xs : List X) (k : ℕ) (x : X) → slice_get xs k ≡ Some x → test x ≡ true → list_any test xs ≡ true
-any_at test [] k x at passes = absurd cc
-any_at test (first ∷ xs) zero x at passes =
-    let same : first ≡ x = cc in
-    ap (λ (b : Bool). b || list_any test xs) (ap test same ∙ passes)
-any_at test (first ∷ xs) (suc k) x at passes = or_true (test first) (list_any test xs) (any_at test xs k x at passes)
 
 among_at : (reference : ℕ) (references : List ℕ) → is_among references reference ≡ true → (k : ℕ) × (slice_get references k ≡ Some reference)
 among_at reference [] is = absurd (false≢true is)
@@ -123,11 +102,6 @@ stays_by config change reference current keeps =
 pub mark_keeps : (config : Configuration) (guid : List ℕ) (reference : ℕ) → is_current config.members reference ≡ true → is_current (members_after config (Mark guid)) reference ≡ true
 mark_keeps config guid reference current = stays_by config (Mark guid) reference current (λ member here. here)
 
-lose_keeps : (config : Configuration) (references : List ℕ) (reference : ℕ) → is_among references reference ≡ false → is_current config.members reference ≡ true
-    → is_current (members_after config (Lose references)) reference ≡ true
-lose_keeps config references reference away current =
-    stays_by config (Lose references) reference current (λ member here. ap (λ (b : Bool). b || member.missing) away ∙ here)
-
 -- ---- disks that stay
 
 -- Where each disk stays a step keeps its seats.
@@ -175,7 +149,7 @@ module _ (newest : List (Option Newest)) (named : Option (List ℕ)) (g : GroupV
   listed : (guid : List ℕ) (reference : ℕ) (leader : View) → leading_view slots own ≡ Some leader → lists_current leader guid reference ≡ true → IsCurrentIn g.config.members guid reference
   unfolding leading_view leaders config_of
   listed guid reference leader led lists =
-      let first = first_kept (λ slot. view_in (slot_at slots slot)) (leads slots own) (numbers slots) leader led in
+      let first = comes_first (λ slot. view_in (slot_at slots slot)) (leads slots own) (numbers slots) leader led in
       subst (λ (config : Configuration). IsCurrentIn config.members guid reference) (sym config_is)
       (subst (λ (views : List View). IsCurrentIn (read own (sequence_of slots own) views).members guid reference) (sym first.1)
       (read_current own (sequence_of slots own) leader first.0 guid reference lists))
@@ -217,7 +191,7 @@ module _ (newest : List (Option Newest)) (named : Option (List ℕ)) (g : GroupV
 
     some_seat : some (seated g) ≡ true
     some_seat =
-        let found = map_get (λ (disk : Seated). disk.seat) (seated g) place seat (ap (λ (seats : List Seat). slice_get seats place) assembled.are_seated ∙ at) in
+        let found = in_map (λ (disk : Seated). disk.seat) (seated g) place seat (ap (λ (seats : List Seat). slice_get seats place) assembled.are_seated ∙ at) in
         by (seated g) place found.0 found.1
       where
         by : (disks : List Seated) (k : ℕ) (disk : Seated) → slice_get disks k ≡ Some disk → some disks ≡ true
@@ -256,20 +230,20 @@ module _ (newest : List (Option Newest)) (named : Option (List ℕ)) (g : GroupV
         by true e =
             let here = subst (λ (all : List ℕ). is_among all seat.reference ≡ true) (absent_are newest own g made) e in
             let place_of = among_at seat.reference (absent slots (filter (claims slots own) (numbers slots)) g.config.members) here in
-            let entry = map_get (λ (one : ℕ × Member). one.0) (filter (is_absent slots (filter (claims slots own) (numbers slots))) g.config.members) place_of.0 seat.reference place_of.1 in
+            let entry = in_map (λ (one : ℕ × Member). one.0) (filter (is_absent slots (filter (claims slots own) (numbers slots))) g.config.members) place_of.0 seat.reference place_of.1 in
             let passes = all_at (λ (one : ℕ × Member). is_absent slots (filter (claims slots own) (numbers slots)) one ≡ true)
             (filter (is_absent slots (filter (claims slots own) (numbers slots))) g.config.members) place_of.0 entry.0
             (filter_pass (is_absent slots (filter (claims slots own) (numbers slots))) g.config.members) entry.1 in
             let free = (and_parts (not entry.0.1.missing) (not (list_any (has_reference slots entry.0.0) (filter (claims slots own) (numbers slots)))) passes).1 in
-            let kept = passes_kept (claims slots own) (numbers slots) seat.slot seat.slot number is_claimed in
-            let any = any_at (has_reference slots seat.reference) (filter (claims slots own) (numbers slots)) kept.0 seat.slot kept.1 has in
+            let kept = filtered_passes (claims slots own) (numbers slots) seat.slot seat.slot number is_claimed in
+            let any = any_passes_from_place (has_reference slots seat.reference) (filter (claims slots own) (numbers slots)) kept.0 seat.slot kept.1 has in
             let same : list_any (has_reference slots entry.0.0) (filter (claims slots own) (numbers slots)) ≡ true =
             ap (λ (n : ℕ). list_any (has_reference slots n) (filter (claims slots own) (numbers slots))) entry.2 ∙ any in
             absurd (false≢true (sym (ap not same) ∙ free))
 
   current_by : (lost : Bool) → some g.absent ≡ lost → (reference : ℕ) → is_current g.config.members reference ≡ true → is_among g.absent reference ≡ false
       → is_current (if lost then config_lost g else g.config).members reference ≡ true
-  current_by true e reference current there = lose_keeps g.config g.absent reference there current
+  current_by true e reference current there = lose_leaves g.config g.absent reference there current
   current_by false e reference current there = current
 
   -- Once the group is recovered it is a current member's still.

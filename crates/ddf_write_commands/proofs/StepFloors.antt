@@ -1,29 +1,23 @@
 -- The steps of a group leave the floors of the disks that they write.
 use Rattle.std.proofs.Common.{◌≡◌, ◌∙◌, ℕ, zero, suc, Bool, true, false, List, [], ◌∷◌, ◌++◌, map, filter, Option, Some, None, Result, Ok, Err, if◌then◌else◌, refl, ap, sym, subst}
 use Rattle.std.specs.Prelude.{option_to_list, slice_get}
+use Rattle.ddf_lemmas.proofs.Lists.{filter_get, in_map}
 use Rattle.ddf_config.specs.declared.refusal.Refusal.{Refusal}
 use Rattle.ddf_config.specs.Configuration.{Configuration}
-use Rattle.ddf_copy.specs.declared.copy.DiskCopy.{DiskCopy}
-use Rattle.ddf_copy.specs.declared.which.Which.TheVariants.{Primary}
-use Rattle.ddf_copy.specs.Headers.{written_as}
 use Rattle.ddf_plan.specs.declared.change.Change.{Change}
 use Rattle.ddf_plan.specs.Same.{is_step}
-use Rattle.ddf_view.specs.Shows.{shows}
-use Rattle.ddf_view.specs.View.{view_of}
 use Rattle.ddf_rewrite.specs.Before.{Before, before}
-use Rattle.ddf_rewrite.specs.Copies.{changed_copy, recovered_copy}
-use Rattle.ddf_rewrite.proofs.Lists.{map_get}
 use Rattle.ddf_seats.specs.declared.seated.Seated.{Seated}
 use Rattle.ddf_seats.specs.Group.{GroupValue, floor_of}
 use Rattle.ddf_seats.specs.Leading.{lags, leading, some}
 use Rattle.ddf_seats.specs.Seated.{seated, views_in, levelled}
-use Rattle.ddf_seats.proofs.Lists.{filter_get}
 use Rattle.ddf_steps.specs.Ready.{steps_from, with_step}
 use Rattle.ddf_steps.specs.Refusing.{step_refusal}
 use Rattle.ddf_steps.specs.Steps.{Step, config_after, disks_after, rewritten, stays_in, step_of}
 use Rattle.ddf_recovery.specs.Ready.{readied}
-use Rattle.ddf_recovery.specs.Recovery.{config_lost, config_recovered, disks_recovered, lost_step, mended, mended_copy, mended_or_kept, mending_step, recovery_of}
+use Rattle.ddf_recovery.specs.Recovery.{config_lost, config_recovered, disks_recovered, lost_step, mended, mended_or_kept, mending_step, recovery_of}
 use Rattle.ddf_recovery.proofs.ReadiedSteps.{are_tried, behind, steps_are}
+use Rattle.ddf_history_steps.proofs.Floored.{changed_floor, mended_floor}
 
 -- ---- the floors of the disks that steps write
 
@@ -38,18 +32,6 @@ pub record HasFloorOf (seats : List Seated) (disk : Seated) : Type 0 where
 abbrev pub HaveFloorsOf : List Seated → List Seated → Type 0
 HaveFloorsOf seats disks = (place : ℕ) (disk : Seated) → slice_get disks place ≡ Some disk → HasFloorOf seats disk
 
-changed_floor : (leaders : Before) (config : Configuration) (timestamp : ℕ) (copy : DiskCopy) → floor_of (written_as (changed_copy copy leaders config timestamp) Primary) ≡ floor_of copy
-unfolding changed_copy
-changed_floor leaders config timestamp copy = refl
-
-mended_floor : (leaders : Before) (config : Configuration) (timestamp : ℕ) (copy : DiskCopy) → floor_of (written_as (mended_copy leaders config timestamp copy) Primary) ≡ floor_of copy
-unfolding recovered_copy
-mended_floor leaders config timestamp copy = by (shows config (view_of copy))
-  where
-    by : (shown : Bool) → floor_of (written_as (if shown then copy else recovered_copy copy leaders config timestamp) Primary) ≡ floor_of copy
-    by true = refl
-    by false = refl
-
 module _ (seats : List Seated) where
   renewed : (disk next : Seated) → disk.seat.slot ≡ next.seat.slot → floor_of next.copy ≡ floor_of disk.copy → HasFloorOf seats disk → HasFloorOf seats next
   renewed disk next slot floor from =
@@ -58,7 +40,7 @@ module _ (seats : List Seated) where
   pub mapped : (f : Seated → Seated) (disks : List Seated) → ((disk : Seated) → (f disk).seat.slot ≡ disk.seat.slot) → ((disk : Seated) → floor_of (f disk).copy ≡ floor_of disk.copy)
       → HaveFloorsOf seats disks → HaveFloorsOf seats (map f disks)
   mapped f disks slots floors from place disk at =
-      let one = map_get f disks place disk at in
+      let one = in_map f disks place disk at in
       subst (HasFloorOf seats) one.2 (renewed one.0 (f one.0) (sym (slots one.0)) (floors one.0) (from place one.0 one.1))
 
   filtered : (p : Seated → Bool) (disks : List Seated) → HaveFloorsOf seats disks → HaveFloorsOf seats (filter p disks)

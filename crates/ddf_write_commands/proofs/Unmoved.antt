@@ -1,9 +1,12 @@
 -- Disks that hold a group hold it still where blocks were written below the floors of its seats.
-use Rattle.std.proofs.Common.{◌≡◌, ◌⊎◌, ℕ, ◌<◌, ◌≤◌, ◌==◌, min, List, Option, Some, None, Result, Ok, refl, inl, inr, sym, ap, subst, ◌∙◌, arith}
+use Rattle.std.proofs.Common.{◌≡◌, ◌⊎◌, ℕ, ◌<◌, ◌≤◌, ◌==◌, List, Option, Some, None, Ok, refl, inl, inr, sym, ap, subst, ◌∙◌, arith}
 use Rattle.std.proofs.Math.Path.{fun_ext}
 use Rattle.std.proofs.lemmas.Bool.{eqb-true}
 use Rattle.std.proofs.lemmas.Option.{slice_get_within}
 use Rattle.std.specs.Prelude.{find, option_map, slice_get, slice_index, unwrap_or}
+use Rattle.ddf_lemmas.proofs.Lists.{found_place, in_map}
+use Rattle.ddf_lemmas.proofs.Options.{ok_is}
+use Rattle.ddf_lemmas.proofs.Tests.{min_least}
 use Rattle.ddf_header.specs.declared.reading.Header.{Header}
 use Rattle.ddf_bay.specs.State.{BayState, size_of}
 use Rattle.ddf_copy.specs.declared.newest_copy.Newest.{Newest}
@@ -14,7 +17,7 @@ use Rattle.ddf_copy.specs.Copies.{newest_of}
 use Rattle.ddf_copy.specs.Headers.{IsUnder}
 use Rattle.ddf_copy.proofs.Stands.{place_within}
 use Rattle.ddf_config.specs.declared.seat.Seat.{Seat}
-use Rattle.ddf_rewrite.proofs.Lists.{all_at, found_place, map_get}
+use Rattle.ddf_rewrite.proofs.Lists.{all_at}
 use Rattle.ddf_seats.specs.declared.seated.Seated.{Seated}
 use Rattle.ddf_recovery.specs.Committed.{HoldsGroup}
 use Rattle.ddf_seats.specs.Group.{GroupValue}
@@ -24,19 +27,12 @@ use Rattle.ddf_assembly.specs.Settled.{IsLevelIn, IsSettledGroup}
 use Rattle.ddf_history_steps.specs.BlockFloors.{AreFloored, HasFloor, HaveFloors, IsFloored, StaySettled, floor_in}
 use Rattle.ddf_history_steps.proofs.Above.{AreSameFrom, anchor_same, newest_of_same}
 
-same_ok : {A B : Type 0} {one other : A} → ◌≡◌ {A = Result A B} (Ok one) (Ok other) → one ≡ other
-same_ok e = cc
-
--- The least of three numbers is none of the last two's greater.
-least_of : (a b c : ℕ) → (min a (min b c) ≤ b) × (min a (min b c) ≤ c)
-least_of a b c = (omega arith, omega arith)
-
 -- ---- the floors of a group on disks
 
 module _ {D : Type 0} (disks : BayState D) (found : GroupValue) (settled : IsSettledGroup found) (holds : HoldsGroup disks found) (are : AreFloored (seated found)) where
   at_place : (place : ℕ) (seat : Seat) → slice_get found.seats place ≡ Some seat → HasFloor disks seat.slot seat.floor
   at_place place seat at =
-      let own = map_get (λ (disk : Seated). disk.seat) (seated found) place seat (ap (λ (seats : List Seat). slice_get seats place) settled.are_seated ∙ at) in
+      let own = in_map (λ (disk : Seated). disk.seat) (seated found) place seat (ap (λ (seats : List Seat). slice_get seats place) settled.are_seated ∙ at) in
       let disk = own.0 in
       let level = all_at (IsLevelIn found) (seated found) place disk settled.are_level own.1 in
       let held = holds.are_held disk.seat.slot (Level disk.copy) level.is_newest in
@@ -47,7 +43,7 @@ module _ {D : Type 0} (disks : BayState D) (found : GroupValue) (settled : IsSet
       let within = place_within (size_of disks disk.seat.slot) held.anchor disk.copy Primary under in
       let sure = holds.are_settled place seat (slice_get_within found.seats place seat at) at in
       let copy = disk.copy in
-      let least = least_of copy.header.geometry.workspace_lba copy.header.primary_lba copy.header.secondary_lba in
+      let least = min_least copy.header.geometry.workspace_lba copy.header.primary_lba copy.header.secondary_lba in
       subst (λ (one : Seat). HasFloor disks one.slot one.floor) own.2 (record {
         anchor = held.anchor;
         is_anchored = held.is_anchored;
@@ -99,7 +95,7 @@ module _ {D : Type 0} (old new : BayState D) (floor : ℕ → ℕ) (floors : Hav
   newest_still slot anchor is = elim (floors slot) [
     | inl none ↦ ap (λ (sector : ℕ → List ℕ). newest_of (size_of old slot) sector anchor) (sym (none_written slot none))
     | inr has ↦
-        let own : has.anchor ≡ anchor = same_ok (sym has.is_anchored ∙ is) in
+        let own : has.anchor ≡ anchor = ok_is (sym has.is_anchored ∙ is) in
         newest_of_same (floor slot) (old.held slot) (new.held slot) (same_from slot) (size_of old slot) anchor
         (subst (λ (one : Header). floor slot ≤ one.primary_lba) own has.primary) (subst (λ (one : Header). floor slot ≤ one.secondary_lba) own has.secondary)
   ]

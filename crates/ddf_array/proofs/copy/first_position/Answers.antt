@@ -1,7 +1,8 @@
 use Rattle.std.proofs.Common.{◌∙◌, ap, sym, arith, length}
 use Rattle.std.specs.Prelude.{option_to_list}
+use Rattle.ddf_lemmas.proofs.Options.{none_from_not_some}
 use Rattle.ddf_array.specs.Places.{site_at}
-use Rattle.ddf_array.proofs.Firsts.{none_more, first_found, by_some, by_none, first_option}
+use Rattle.ddf_array.proofs.Firsts.{none_more, first_found, by_some, first_option}
 use Rattle.ddf_array.proofs.copy.first_position.Goals as goal
 
 pub returns-then-is_some : goal.returns-then-is_some
@@ -15,4 +16,4 @@ returns-then-is_some c =
 pub loop-position-preserved : goal.loop-position-preserved
 loop-position-preserved c =
     none_more (λ position. option_to_list (site_at c.args.part.now.places position c.args.sector)) c.loop-position.position c.loop-position.invariant
-    (first_option _ ∙ sym c.site_at-site.ensures ∙ by_none _ (sym c.is_some.ensures ∙ c.if-is_some.false))
+    (first_option _ ∙ sym c.site_at-site.ensures ∙ none_from_not_some _ (sym c.is_some.ensures ∙ c.if-is_some.false))

@@ -1,11 +1,12 @@
 use Rattle.std.proofs.Common.{◌≡◌, ◌+◌, ◌-◌, ◌≤◌, ◌<◌, [], length, get_or, take, drop, ◌∙◌, arith}
 use Rattle.std.specs.Prelude.{slice_index}
+use Rattle.ddf_lemmas.proofs.Lists.{length_of_rest}
 use Rattle.ddf_bay.proofs.Steps.{keeps_then, spends_then, stops_then}
 use Rattle.ddf_badblocks.specs.Pieces.{pieces_below}
 use Rattle.ddf_badblocks.specs.State.{place}
 use Rattle.ddf_bay.proofs.Fronts.{remembers_then, spends_more}
 use Rattle.ddf_badblocks.proofs.Cuts.{pieces_more, rest_begins}
-use Rattle.ddf_badblocks.proofs.Given.{bytes_more, held_since, rest_long}
+use Rattle.ddf_badblocks.proofs.Given.{bytes_more, held_since}
 use Rattle.ddf_badblocks.proofs.pieces.read_pieces.Goals as goal
 
 pub returns-in_err-done-clause-spends : goal.returns-in_err-done-clause-spends
@@ -32,7 +33,7 @@ loop-done-preserved g c =
     let ranges = get_or c.args.logs.now c.args.slot [] in
     let some : done < length c.args.into.now = omega (arith, c.loop-done-test.true, c.loop-done.auto.into) in
     let begins = so_far.begins some in
-    let rest = rest_long c.loop-done.into done in
+    let rest = length_of_rest c.loop-done.into done in
     let most : n ≤ length c.loop-done.into - done = omega (arith, c.in_ok-done.ensures.most, rest) in
     record {
       within = omega (arith, most, c.loop-done.auto.into, some);

@@ -1,13 +1,13 @@
 use Rattle.std.proofs.Common.{◌≡◌, ◌+◌, ◌-◌, ◌≤◌, ◌<◌, [], length, get_or, take, drop, ap, ◌∙◌, arith}
 use Rattle.std.specs.Prelude.{slice_index}
 use Rattle.std.proofs.lemmas.List.{take_rest, length-drop}
+use Rattle.ddf_lemmas.proofs.Options.{on_err}
 use Rattle.ddf_bay.specs.Sectors.{Image, put_run}
 use Rattle.ddf_bay.proofs.Steps.{spends_then}
 use Rattle.ddf_badblocks.specs.Pieces.{pieces_below}
 use Rattle.ddf_badblocks.specs.State.{place, seen_state}
 use Rattle.ddf_bay.proofs.Fronts.{rest_adds, rest_stops, rest_mixes, put_pieces, remembers_then, spends_more}
 use Rattle.ddf_badblocks.proofs.Cuts.{pieces_more, rest_begins}
-use Rattle.ddf_badblocks.proofs.Views.{on_err}
 use Rattle.ddf_badblocks.proofs.Pieced.{stops_again}
 use Rattle.ddf_badblocks.proofs.pieces.write_pieces.Goals as goal
 

@@ -7,8 +7,7 @@ use Rattle.ddf_answer.specs.Tells.{EndsWith}
 use Rattle.ddf_words.specs.Batch.{AskForBatch, IsOrder, IsServed}
 use Rattle.ddf_words.specs.declared.batch_order.Order.{Order}
 use Rattle.ddf_batch.specs.Batch.{IsBatchRun, point}
-use Rattle.ddf_batch.proofs.LineRuns.{one_place}
-use Rattle.ddf_command.proofs.Endings.{done_nothing}
+use Rattle.ddf_command.proofs.Endings.{done_nothing, one_place}
 use Rattle.ddf_batch.proofs.running.run.Goals as goal
 
 pub returns-in-Ok-Batch-clause-batch : goal.returns-in-Ok-Batch-clause-batch

@@ -2,10 +2,11 @@ use Rattle.std.proofs.Common.{◌≡◌, ◌+◌, ◌*◌, ◌<◌, ◌∙◌, r
 use Rattle.std.specs.List.{flat_map}
 use Rattle.std.specs.Int.{w64, to_be_bytes}
 use Rattle.std.proofs.lemmas.List.{take_all}
+use Rattle.std.proofs.lemmas.List.Folds.{flat_map-map}
 use Rattle.ddf_seal.specs.Unread.{placed}
 use Rattle.ddf_seal.proofs.Same.{as_placed, placed_none}
 use Rattle.ddf_config_records.specs.declared.place.Place.{Place}
-use Rattle.ddf_config_records.proofs.Numbers.{one_more, flat_map-map}
+use Rattle.ddf_config_records.proofs.Numbers.{one_more}
 use Rattle.ddf_config_records.proofs.element_writing.put_starts.Goals as goal
 
 pub loop-index-init : goal.loop-index-init

@@ -1,5 +1,6 @@
 use Rattle.std.proofs.Common.{◌≡◌, ◌∙◌, ◌-◌, Ok, ap, refl, sym, arith, ⊎_elim}
 use Rattle.std.specs.Prelude.{Option, None, if◌then◌else◌, slice_index}
+use Rattle.ddf_lemmas.proofs.Options.{if_ok_then}
 use Rattle.ddf_bay.specs.State.{on_slot}
 use Rattle.ddf_bay.proofs.Looks.{looks_then, reads_then}
 use Rattle.ddf_copy.specs.Anchor.{anchor_at}
@@ -8,7 +9,6 @@ use Rattle.ddf_hidden_logs.specs.declared.look.Look.{Look}
 use Rattle.ddf_hidden_logs.specs.declared.mask.Mask.{Mask}
 use Rattle.ddf_hidden_logs.specs.Shown.{mask_at, mask_in}
 use Rattle.ddf_hidden_logs.proofs.Anchored.{mask_is, none_on_empty}
-use Rattle.ddf_hidden_logs.proofs.Looking.{if_ok_then}
 use Rattle.ddf_hidden_logs.proofs.look.look_at.Goals as goal
 
 pub returns-then-size-eq0-clause-mask : goal.returns-then-size-eq0-clause-mask

@@ -1,5 +1,6 @@
 use Rattle.std.proofs.Common.{◌≡◌, ◌+◌, ◌-◌, ◌≤◌, ◌<◌, length, take, drop, ap, ◌∙◌, arith}
 use Rattle.std.proofs.lemmas.List.{take_rest, length-drop}
+use Rattle.ddf_lemmas.proofs.Options.{on_err}
 use Rattle.ddf_bay.specs.Sectors.{Image, put_run}
 use Rattle.ddf_bay.proofs.Steps.{spends_then}
 use Rattle.ddf_hidden_logs.specs.State.{shown_state}
@@ -7,7 +8,6 @@ use Rattle.ddf_bay.proofs.Fronts.{rest_adds, rest_stops, rest_mixes, put_pieces,
 use Rattle.ddf_hidden_logs.specs.Masks.{mask_of}
 use Rattle.ddf_hidden_logs.specs.Pieces.{pieces_below}
 use Rattle.ddf_hidden_logs.proofs.Cuts.{pieces_more, rest_begins}
-use Rattle.ddf_hidden_logs.proofs.Views.{on_err}
 use Rattle.ddf_hidden_logs.proofs.pieces.write_pieces.Goals as goal
 
 pub returns-in_err-done-clause-held_failed : goal.returns-in_err-done-clause-held_failed

@@ -1,13 +1,14 @@
 use Rattle.std.proofs.Common.{◌+◌, [], get_or, refl, sym, ap, ◌∙◌}
+use Rattle.std.proofs.lemmas.Result.{on_ok_weaker}
 use Rattle.ddf_linux.specs.Kinds.{kind_at}
 use Rattle.ddf_linux.specs.TurnLaws.{turn_plain}
 use Rattle.ddf_linux.specs.State.{turned_image}
-use Rattle.ddf_linux.proofs.Views.{adds_turned, stops_turned, put_turned, ok_then}
+use Rattle.ddf_linux.proofs.Views.{adds_turned, stops_turned, put_turned}
 use Rattle.ddf_linux.proofs.pieces.write_plain.Goals as goal
 
 pub returns-clause-held : goal.returns-clause-held
 returns-clause-held g c = λ tells.
-    ok_then c.write_run.result (λ is. ap (turned_image c.args.kinds.now) is ∙ put_turned c.args.kinds.now c.args.slot c.args.lba c.args.from.now c.args.from.now refl (λ k lt. sym (turn_plain (kind_at c.args.kinds.now c.args.slot) (c.args.lba + k) (get_or c.args.from.now k []) (c.requires.plain k lt))) (g.B.Bay.disks c.args.bay.now).held) (c.write_run.ensures.held tells)
+    on_ok_weaker c.write_run.result (λ is. ap (turned_image c.args.kinds.now) is ∙ put_turned c.args.kinds.now c.args.slot c.args.lba c.args.from.now c.args.from.now refl (λ k lt. sym (turn_plain (kind_at c.args.kinds.now c.args.slot) (c.args.lba + k) (get_or c.args.from.now k []) (c.requires.plain k lt))) (g.B.Bay.disks c.args.bay.now).held) (c.write_run.ensures.held tells)
 
 pub returns-clause-left : goal.returns-clause-left
 returns-clause-left g c =

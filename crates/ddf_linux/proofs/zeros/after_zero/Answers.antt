@@ -1,6 +1,6 @@
 use Rattle.std.proofs.Common.{◌<◌, ◌≤◌, ◌-◌, ◌+◌, refl, sym, ◌∙◌, ap, arith}
 use Rattle.ddf_seal.specs.Crc.{bit_steps}
-use Rattle.ddf_linux.proofs.ZeroSteps.{bit_steps_more, bit_steps_all}
+use Rattle.ddf_seal.proofs.CrcSteps.{bit_steps_all, bit_steps_more}
 use Rattle.ddf_linux.proofs.zeros.after_zero.Goals as goal
 
 pub loop-init : goal.loop-init

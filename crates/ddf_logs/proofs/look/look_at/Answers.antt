@@ -1,5 +1,6 @@
 use Rattle.std.proofs.Common.{◌≡◌, ◌∙◌, ℕ, ◌-◌, true, List, [], Ok, ap, refl, subst, sym, arith, ⊎_elim}
 use Rattle.std.specs.Prelude.{IfOk, if◌then◌else◌, slice_index}
+use Rattle.ddf_lemmas.proofs.Options.{if_ok_then}
 use Rattle.ddf_bay.specs.State.{on_slot}
 use Rattle.ddf_bay.proofs.Looks.{looks_then, reads_then}
 use Rattle.ddf_copy.specs.Anchor.{anchor_at}
@@ -8,7 +9,6 @@ use Rattle.ddf_badblocks.specs.declared.range.Range.{Range}
 use Rattle.ddf_badblocks.specs.Ranges.{are_exchangeable}
 use Rattle.ddf_logs.specs.declared.look.Look.{Look}
 use Rattle.ddf_logs.specs.Logs.{exchange_at, exchange_in}
-use Rattle.ddf_logs.proofs.Looking.{if_ok_then}
 use Rattle.ddf_logs.proofs.Through.{exchange_is, none_on_empty}
 use Rattle.ddf_logs.proofs.look.look_at.Goals as goal
 

@@ -1,6 +1,6 @@
 use Rattle.std.proofs.Common.{◌≡◌, ◌∙◌, length}
+use Rattle.ddf_lemmas.proofs.Lists.{zip_matches}
 use Rattle.ddf_plan.specs.Same.{same_array}
-use Rattle.ddf_plan.proofs.Zips.{zip_matches}
 use Rattle.ddf_plan.proofs.same.same_arrays.Goals as goal
 
 pub returns-then-len : goal.returns-then-len

@@ -1,6 +1,6 @@
 use Rattle.std.proofs.Common.{◌∙◌}
+use Rattle.ddf_lemmas.proofs.Lists.{zip_matches}
 use Rattle.ddf_plan.specs.Same.{same_position}
-use Rattle.ddf_plan.proofs.Zips.{zip_matches}
 use Rattle.ddf_plan.proofs.same.same_positions.Goals as goal
 
 pub returns-then-one-other : goal.returns-then-one-other

@@ -1,8 +1,9 @@
 use Rattle.std.proofs.Common.{◌≡◌, ◌∙◌, ◌+◌, ◌-◌, length, take, drop, ap, arith}
 use Rattle.std.proofs.lemmas.Result.{err_from_is_err_and}
+use Rattle.ddf_lemmas.proofs.Lists.{length_of_rest}
 use Rattle.ddf_read.proofs.Counted.{calls_more}
 use Rattle.ddf_read.proofs.OnlyReading.{only_reads_then, failed_before, failed_behind}
-use Rattle.ddf_read.proofs.Pieces.{given_more, left_more, rest_long}
+use Rattle.ddf_read.proofs.Pieces.{given_more, left_more}
 use Rattle.ddf_read.proofs.SourceSlots.{slot_on}
 use Rattle.ddf_read.proofs.read.read_all.Goals as goal
 
@@ -12,14 +13,14 @@ read_first-requires-clause-fits g c = rw c.loop-at.invariant.reads.reads.same_si
 pub read_first-requires-clause-sources : goal.read_first-requires-clause-sources
 read_first-requires-clause-sources g c = λ k below.
     let same : c.args.start + (c.loop-at.at + k) ≡ c.args.start + c.loop-at.at + k = omega arith in
-    rw (← same) (c.requires.sources (c.loop-at.at + k) (omega (arith, below, rest_long c.loop-at.out c.loop-at.at, c.loop-at.auto.out)))
+    rw (← same) (c.requires.sources (c.loop-at.at + k) (omega (arith, below, length_of_rest c.loop-at.out c.loop-at.at, c.loop-at.auto.out)))
 
 pub returns-in_err-at-clause-left : goal.returns-in_err-at-clause-left
 returns-in_err-at-clause-left g c =
     let p = err_from_is_err_and c.from_residual.result c.from_residual.ensures.1 in
     rw (p.1, p.2)
     (left_more c.loop-at.invariant.reads c.in_err-at.ensures.reads c.args.view.now c.args.start c.loop-at.at _ (length c.args.out.now) _
-    (omega (arith, rest_long c.loop-at.out c.loop-at.at, c.loop-at.auto.out, c.loop-at-test.true)) c.in_err-at.ensures.left)
+    (omega (arith, length_of_rest c.loop-at.out c.loop-at.at, c.loop-at.auto.out, c.loop-at-test.true)) c.in_err-at.ensures.left)
 
 pub returns-in_err-at-clause-calls : goal.returns-in_err-at-clause-calls
 returns-in_err-at-clause-calls g c = λ copied none_failed.
@@ -32,7 +33,7 @@ loop-at-preserved g c =
     let so_far = c.loop-at.invariant.reads in
     let next = c.in_ok-at.ensures.reads in
     let long : length (take (length c.loop-at.out - c.loop-at.at) (drop c.loop-at.at c.loop-at.out)) ≡ length c.args.out.now - c.loop-at.at =
-    rest_long c.loop-at.out c.loop-at.at ∙ ap (λ n. n - c.loop-at.at) c.loop-at.auto.out in
+    length_of_rest c.loop-at.out c.loop-at.at ∙ ap (λ n. n - c.loop-at.at) c.loop-at.auto.out in
     record {
       inside = omega (arith, c.in_ok-at.ensures.within, long, c.loop-at.invariant.inside);
       reads = only_reads_then so_far next;

@@ -1,6 +1,7 @@
 use Rattle.std.proofs.Common.{◌≡◌, ◌∙◌, inl, inr, false, ℕ, ◌+◌, ◌-◌, true, sym, ap, subst, arith, length, rules}
 use Rattle.std.proofs.lemmas.Grind.{common_steps}
 use Rattle.std.proofs.lemmas.Result.{err_from_is_err_and}
+use Rattle.ddf_lemmas.proofs.Tests.{true_not_false}
 use Rattle.ddf_bytes.specs.Counts.{Rose}
 use Rattle.ddf_array.specs.Volume.{capacity}
 use Rattle.ddf_cells.specs.CellsOn.{write_cells}
@@ -11,7 +12,6 @@ use Rattle.ddf_resync.proofs.Copied.{copied_alone}
 use Rattle.ddf_resync.proofs.CopyStep.{block_left, step_cells, step_copied, step_noted, step_writes}
 use Rattle.ddf_resync.proofs.SeveralCells.{cells_up, lone, other_along}
 use Rattle.ddf_resync.proofs.Stops.{asks_behind, asks_read}
-use Rattle.ddf_cells.proofs.Lists.{true_not_false}
 use Rattle.ddf_resync.proofs.copying.copy_first.Goals as goal
 
 -- nothing is done where the blocks have one cell

@@ -1,13 +1,11 @@
 use Rattle.std.proofs.Common.{◌≡◌, ◌∙◌, ⊎_elim, ◌<◌, ◌≤◌, Some, refl, sym, ap, subst, arith, length, slice_get}
 use Rattle.std.proofs.lemmas.Bool.{cases_lt}
 use Rattle.std.proofs.lemmas.Option.{slice_get_read, slice_get_within}
+use Rattle.ddf_lemmas.proofs.Options.{some_is}
 use Rattle.ddf_array.specs.declared.part.Part.{Part}
 use Rattle.ddf_resync.specs.Copying.{AreThisOn}
 use Rattle.ddf_resync.proofs.SeveralCells.{no_other, other_there}
 use Rattle.ddf_resync.proofs.several.has_other.Goals as goal
-
-some_is : {X : Type 0} {a b : X} → Some a ≡ Some b → a ≡ b
-some_is e = cc
 
 pub returns-then-has_other_on : goal.returns-then-has_other_on
 returns-then-has_other_on c =

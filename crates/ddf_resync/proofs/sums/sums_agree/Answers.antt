@@ -2,12 +2,12 @@ use Rattle.std.proofs.Common.{◌≡◌, ◌∙◌, ◌+◌, length, true, sym, 
 use Rattle.std.proofs.lemmas.Result.{err_from_is_err_and}
 use Rattle.ddf_array.specs.Levels.{keeps_parity}
 use Rattle.ddf_array.specs.Values.{sum_at}
-use Rattle.ddf_cells.proofs.Lists.{true_not_false}
 use Rattle.ddf_primary.proofs.ShapeFacts.{depth_le}
 use Rattle.std.proofs.Common.{ℕ, ◌<◌, ◌≤◌, List, [], Some, map, rules}
 use Rattle.std.proofs.lemmas.Grind.{common_steps}
 use Rattle.std.specs.Prelude.{slice_index_or}
 use Rattle.std.specs.List.{list_all}
+use Rattle.ddf_lemmas.proofs.Tests.{true_not_false}
 use Rattle.ddf_parity.specs.Xor.{zeros}
 use Rattle.ddf_array.specs.declared.site.Site.{Site}
 use Rattle.ddf_array.specs.Places.{is_available}

@@ -1,6 +1,6 @@
 use Rattle.std.proofs.Common.{◌≡◌, ◌∙◌, ⊎_elim, ℕ, ◌<◌, ◌≤◌, Option, length, Some, refl, sym, ap, subst, arith, slice_get}
 use Rattle.std.proofs.lemmas.Bool.{cases_lt}
-use Rattle.std.proofs.lemmas.Option.{slice_get_read, slice_get_within}
+use Rattle.std.proofs.lemmas.Option.{slice_get_read, slice_get_within, same_Some}
 use Rattle.ddf_bay.specs.Sectors.{Image}
 use Rattle.ddf_primary.specs.Cells.{depth_of}
 use Rattle.ddf_array.specs.declared.part.Part.{Part}
@@ -9,9 +9,6 @@ use Rattle.ddf_resync.specs.Agreeing.{Agrees}
 use Rattle.ddf_resync.specs.Scrubbing.{DiffersFirst, IsElementScrubbed}
 use Rattle.ddf_resync.proofs.Found.{all_redundant, redundant_agrees}
 use Rattle.ddf_resync.proofs.walk.scrub_all.Goals as goal
-
-same_of : {X : Type 0} (x y : X) → Some x ≡ Some y → x ≡ y
-same_of x y e = cc
 
 pub scrub_element-requires-clause-fits : goal.scrub_element-requires-clause-fits
 scrub_element-requires-clause-fits g c = rw c.loop-element.invariant.reads.reads.same_sizes c.requires.fits
@@ -46,7 +43,7 @@ returns-in-Some-clause-found g c = λ tells are.
         deep = here.deep;
         differs = here.differs;
         rows_before = λ other s other_at before deep.
-            let same : part ≡ other = same_of part other (sym at ∙ other_at) in
+            let same : part ≡ other = same_Some part other (sym at ∙ other_at) in
             subst (λ (p : Part). Agrees v held element p s) same (here.rows_before s before);
         elements_before = c.loop-element.invariant.agree tells;
       },
@@ -71,7 +68,7 @@ loop-element-preserved g c =
           ⊎_elim (λ (earlier : e < element). c.loop-element.invariant.agree tells e s other earlier other_at deep)
           (λ (later : element ≤ e).
           let one : e ≡ element = omega arith in
-          let same : part ≡ other = same_of part other (sym at ∙ ap (slice_get v.parts) (sym one) ∙ other_at) in
+          let same : part ≡ other = same_Some part other (sym at ∙ ap (slice_get v.parts) (sym one) ∙ other_at) in
           subst (λ k. Agrees v held k other s) (sym one)
           (subst (λ (p : Part). Agrees v held element p s) same (all s (subst (λ (p : Part). s < depth_of p.shape) (sym same) deep))))
           (cases_lt e element);

@@ -1,11 +1,12 @@
 use Rattle.std.proofs.Common.{◌∙◌, sym, ap}
+use Rattle.ddf_copy.proofs.Levels.{room_of}
 use Rattle.ddf_view.specs.View.{View, find_held}
 use Rattle.ddf_rewrite.specs.Before.{before}
-use Rattle.ddf_rewrite.proofs.Premises.{has_room, leader_can, own_can}
+use Rattle.ddf_rewrite.proofs.Premises.{leader_can, own_can}
 use Rattle.ddf_rewrite.proofs.copies.changed_holding.Goals as goal
 
 pub changed_record-requires-clause-room : goal.changed_record-requires-clause-room
-changed_record-requires-clause-room c = has_room c.args.old.now c.requires.old
+changed_record-requires-clause-room c = room_of c.args.old.now c.requires.old
 
 pub changed_record-requires-clause-own : goal.changed_record-requires-clause-own
 changed_record-requires-clause-own c = λ held at.

@@ -1,10 +1,11 @@
 use Rattle.std.proofs.Common.{◌∙◌, sym, ap}
+use Rattle.ddf_copy.proofs.Levels.{room_of}
 use Rattle.ddf_view.specs.View.{View, find_held}
-use Rattle.ddf_rewrite.proofs.Premises.{has_room, own_can}
+use Rattle.ddf_rewrite.proofs.Premises.{own_can}
 use Rattle.ddf_rewrite.proofs.recovery.led_holding.Goals as goal
 
 pub recovered_record-requires-clause-room : goal.recovered_record-requires-clause-room
-recovered_record-requires-clause-room c = has_room c.args.old.now c.requires.old
+recovered_record-requires-clause-room c = room_of c.args.old.now c.requires.old
 
 pub recovered_record-requires-clause-own : goal.recovered_record-requires-clause-own
 recovered_record-requires-clause-own c = λ held at.

@@ -3,15 +3,13 @@ use Rattle.std.specs.Prelude.{slice_get, slice_index_or}
 use Rattle.std.proofs.lemmas.Bool.{cases_eq}
 use Rattle.std.proofs.lemmas.Grind.{common_steps}
 use Rattle.std.proofs.lemmas.Option.{slice_get-get_or, slice_get_within}
+use Rattle.ddf_lemmas.proofs.Options.{some_is}
 use Rattle.ddf_bay.specs.Moments.{IsSettled}
 use Rattle.ddf_bay.specs.Sectors.{IsLeft}
 use Rattle.ddf_bay.proofs.Steps.{keeps_then, left_keeps, over_most, over_then, over_writes, settled_keeps, stops_then}
 use Rattle.ddf_stage.specs.declared.desk.Desk.{Desk}
 use Rattle.ddf_stage.specs.Desks.{HasDesk}
 use Rattle.ddf_stage.proofs.each.sync_each.Goals as goal
-
-some_is : {X : Type 0} {a b : X} → Some a ≡ Some b → a ≡ b
-some_is e = cc
 
 pub sync-requires : goal.sync-requires
 sync-requires g c =

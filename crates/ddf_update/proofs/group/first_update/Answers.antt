@@ -1,5 +1,6 @@
 use Rattle.std.specs.Prelude.{slice_index}
-use Rattle.ddf_update.proofs.FirstCopies.{always_ok, under_as, written_by}
+use Rattle.ddf_lemmas.proofs.Options.{always_ok}
+use Rattle.ddf_update.proofs.FirstCopies.{under_as, written_by}
 use Rattle.ddf_update.proofs.group.first_update.Goals as goal
 
 pub returns-clause-prepared : goal.returns-clause-prepared

@@ -1,6 +1,6 @@
 use Rattle.std.proofs.Common.{◌∙◌}
+use Rattle.ddf_lemmas.proofs.Lists.{zip_matches}
 use Rattle.ddf_view.specs.Differ.{same_array_row}
-use Rattle.ddf_view.proofs.Zips.{zip_matches}
 use Rattle.ddf_view.proofs.arrays.same_arrays.Goals as goal
 
 pub returns-then-one-other : goal.returns-then-one-other

@@ -1,6 +1,6 @@
 use Rattle.std.proofs.Common.{◌∙◌}
+use Rattle.ddf_lemmas.proofs.Lists.{zip_matches}
 use Rattle.ddf_view.specs.Shows.{same_position}
-use Rattle.ddf_view.proofs.Zips.{zip_matches}
 use Rattle.ddf_view.proofs.same.same_positions.Goals as goal
 
 pub returns-then-one-other : goal.returns-then-one-other

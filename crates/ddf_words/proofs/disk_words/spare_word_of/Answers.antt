@@ -1,15 +1,15 @@
 use Rattle.std.proofs.Common.{◌≡◌, ◌+◌, ◌∷◌, ◌∙◌, Err, codes, sym, ap, string_bytes, arith}
-use Rattle.std.proofs.lemmas.List.{length-map}
+use Rattle.std.proofs.lemmas.List.{length-map, nil_from_length}
 use Rattle.ddf_words.specs.Words.{Word, words_of, AreSpareWords, GoWrongAt}
 use Rattle.ddf_words.proofs.Disks.{wanting_use, wrong_use, wrong_global_end, wrong_revertible_end, wrong_off_end, wrong_names}
 use Rattle.ddf_words.proofs.Faults.{passed_on}
-use Rattle.ddf_words.proofs.Lists.{named_words, none_left}
+use Rattle.ddf_words.proofs.Lists.{named_words}
 use Rattle.ddf_words.proofs.disk_words.spare_word_of.Goals as goal
 
 pub returns-in_default-clause-place : goal.returns-in_default-clause-place
 returns-in_default-clause-place c = λ place e.
     let same : 0 ≡ place = cc in
-    rw same at (wanting_use (words_of c.args.words.now) (ap words_of (none_left c.args.words.now c.in_default.ensures.cases)))
+    rw same at (wanting_use (words_of c.args.words.now) (ap words_of (nil_from_length c.args.words.now c.in_default.ensures.cases)))
 
 pub returns-in_err-ends_at-in-global-clause-place : goal.returns-in_err-ends_at-in-global-clause-place
 returns-in_err-ends_at-in-global-clause-place c = λ place e.

@@ -1,14 +1,14 @@
 use Rattle.std.proofs.Common.{◌≡◌, ◌∷◌, ◌+◌, ◌∙◌, Err, sym, ap, string_bytes, arith}
-use Rattle.std.proofs.lemmas.List.{length-map}
+use Rattle.std.proofs.lemmas.List.{length-map, nil_from_length}
 use Rattle.ddf_words.specs.Words.{Word, words_of, IsCommand, GoWrongAt}
 use Rattle.ddf_words.proofs.Requests.{no_command, other_command, more_words, wrong_disks}
-use Rattle.ddf_words.proofs.Lists.{none_left, some_left}
+use Rattle.ddf_words.proofs.Lists.{some_left}
 use Rattle.ddf_words.proofs.request.command_of.Goals as goal
 
 pub returns-in_default-clause-place : goal.returns-in_default-clause-place
 returns-in_default-clause-place c = λ place e.
     let same : 0 ≡ place = cc in
-    rw same at (no_command (words_of c.args.words.now) (ap words_of (none_left c.args.words.now c.in_default.ensures.cases)))
+    rw same at (no_command (words_of c.args.words.now) (ap words_of (nil_from_length c.args.words.now c.in_default.ensures.cases)))
 
 pub returns-in_default-as_str-clause-place : goal.returns-in_default-as_str-clause-place
 returns-in_default-as_str-clause-place c = λ place e.

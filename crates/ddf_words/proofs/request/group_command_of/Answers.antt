@@ -1,4 +1,5 @@
 use Rattle.std.proofs.Common.{◌≡◌, ◌∷◌, ◌∙◌, List, drop, refl, sym, ap, string_bytes, arith}
+use Rattle.std.proofs.lemmas.List.{nil_from_length}
 use Rattle.ddf_words.specs.Words.{Word, words_of, AreBlocks, IsGroupCommand, IsNamed}
 use Rattle.ddf_words.specs.declared.command.Command.TheVariants.{Assemble, Show, Read, Scrub, Resync, Rebuild, Write, Change}
 use Rattle.ddf_words.specs.declared.command.Wish.TheVariants.{Delete, Accept}
@@ -7,13 +8,13 @@ use Rattle.ddf_words.proofs.Faults.{passed_on}
 use Rattle.ddf_words.proofs.Places.{wrong_among}
 use Rattle.ddf_words.proofs.Requests.{no_group_command, other_group_command, more_group_words}
 use Rattle.ddf_words.proofs.Wishes.{accept, create, delete, fail, spare}
-use Rattle.ddf_words.proofs.Lists.{named_words, none_left, some_left}
+use Rattle.ddf_words.proofs.Lists.{named_words, some_left}
 use Rattle.ddf_words.proofs.request.group_command_of.Goals as goal
 
 pub returns-in_default-clause-place : goal.returns-in_default-clause-place
 returns-in_default-clause-place c = λ place e.
     let same : 0 ≡ place = cc in
-    rw same at (no_group_command (words_of c.args.words.now) (ap words_of (none_left c.args.words.now c.in_default.ensures.cases)))
+    rw same at (no_group_command (words_of c.args.words.now) (ap words_of (nil_from_length c.args.words.now c.in_default.ensures.cases)))
 
 pub returns-in_default-as_str-clause-place : goal.returns-in_default-as_str-clause-place
 returns-in_default-as_str-clause-place c = λ place e.

@@ -1,29 +1,24 @@
-use Rattle.std.proofs.Common.{◌≡◌, ◌+◌, ◌∙◌, Option, Some, None, Result, Err, sym, ap, string_bytes, arith}
-use Rattle.std.proofs.lemmas.List.{length-map}
+use Rattle.std.proofs.Common.{◌≡◌, ◌+◌, ◌∙◌, Err, sym, ap, string_bytes, arith}
+use Rattle.std.proofs.lemmas.List.{length-map, nil_from_length}
 use Rattle.std.proofs.lemmas.Result.{err_from_is_err_and}
+use Rattle.std.proofs.lemmas.Option.{none-some}
 use Rattle.ddf_words.specs.Words.{words_of, IsRequest, GoWrongAt}
-use Rattle.ddf_words.proofs.Lists.{none_left}
 use Rattle.ddf_words.proofs.Requests.{no_request, wrong_without_group, wrong_over_group}
 use Rattle.ddf_words.specs.declared.words.WordFault.TheVariants.{Place}
 use Rattle.ddf_words.proofs.request.request_of.Goals as goal
+use Rattle.ddf_words.proofs.Faults.{same_error}
 
 pub returns-in_default-clause-place : goal.returns-in_default-clause-place
 returns-in_default-clause-place c = λ place e.
     let same : 0 ≡ place = cc in
-    rw same at (no_request (words_of c.args.words.now) (ap words_of (none_left c.args.words.now c.in_default.ensures.cases)))
-
-same_error : {T E : Type 0} (one other : E) → ◌≡◌ {A = Result T E} (Err one) (Err other) → one ≡ other
-same_error one other e = cc
-
-none_or_some : {X : Type 0} (x : X) → ◌≡◌ {A = Option X} None (Some x) → ⊥
-none_or_some x e = cc
+    rw same at (no_request (words_of c.args.words.now) (ap words_of (nil_from_length c.args.words.now c.in_default.ensures.cases)))
 
 pub returns-in_err-command-clause-place : goal.returns-in_err-command-clause-place
 returns-in_err-command-clause-place c = λ place e.
     let given = err_from_is_err_and c.from_residual.result c.from_residual.ensures.1 in
     let at : given.0 ≡ Place place = same_error given.0 (Place place) (sym given.1 ∙ e) in
     wrong_without_group (words_of c.args.words.now) (string_bytes c.in-Some.first.now) (words_of c.in-Some.rest.now) place (ap words_of c.in-Some.ensures.cases.0)
-    (λ group names. none_or_some group (sym c.in_default-group_of.is ∙ c.group_of.ensures.every group names))
+    (λ group names. none-some group (sym c.in_default-group_of.is ∙ c.group_of.ensures.every group names))
     (c.command_of.ensures.place place (c.in_err-command.was ∙ ap Err (sym given.2 ∙ at)))
 
 -- where the words behind the group go wrong

@@ -1,7 +1,8 @@
-use Rattle.std.proofs.Common.{◌≡◌, ◌∙◌, ◌%◌, inl, inr, [], true, false, refl, sym, subst, arith, max}
+use Rattle.std.proofs.Common.{◌≡◌, ◌∙◌, ◌%◌, inl, inr, [], refl, sym, subst, arith, max}
 use Rattle.std.proofs.Math.Nat.{mod-le}
 use Rattle.std.proofs.lemmas.Nat.{mod_below}
 use Rattle.std.proofs.lemmas.Result.{err_from_is_err_and}
+use Rattle.ddf_lemmas.proofs.Tests.{true_not_false}
 use Rattle.ddf_read.specs.Reading.{Failed}
 use Rattle.ddf_read.proofs.OnlyReading.{failed_before, only_reads_then}
 use Rattle.ddf_write.specs.declared.looking.Missed.{Missed}
@@ -12,9 +13,6 @@ use Rattle.ddf_write.proofs.Gathered.{gathers_reads, gathers_then}
 use Rattle.ddf_write.proofs.Looked.{none_kept, unkept_fault, whole_kept}
 use Rattle.ddf_write.proofs.beside.look_at.Goals as goal
 
-never : true ≡ false → ⊥
-never e = cc
-
 pub keep_pieces-requires-clause-ahead : goal.keep_pieces-requires-clause-ahead
 keep_pieces-requires-clause-ahead g c = mod-le c.args.start c.piece_blocks-each.result
 
@@ -22,7 +20,7 @@ pub returns-in-Ok-clause-beside : goal.returns-in-Ok-clause-beside
 returns-in-Ok-clause-beside g c = record {
   some = c.piece_blocks-each.ensures.some;
   some_first = mod_below c.args.start c.piece_blocks-each.result c.piece_blocks-each.ensures.some;
-  plain = λ none. absurd (never (sym c.requires.keeps ∙ none));
+  plain = λ none. absurd (true_not_false (sym c.requires.keeps ∙ none));
   stripes = λ keeps. inl (c.piece_blocks-each.ensures.value, refl);
   all_kept = c.in-Ok.ensures.all;
   keeps_none = none_kept g.B.Bay.tells (g.B.Bay.disks c.args.bay.now) (g.B.Bay.disks c.keep_pieces.new.bay) c.args.view.now c.args.start c.args.count c.in-Ok.kept c.in-Ok.ensures.gathers;
@@ -56,7 +54,7 @@ pub returns-in_ok-kept-in-Err-Split-clause-beside : goal.returns-in_ok-kept-in-E
 returns-in_ok-kept-in-Err-Split-clause-beside g c = record {
   some = omega arith;
   some_first = omega arith;
-  plain = λ none. absurd (never (sym c.requires.keeps ∙ none));
+  plain = λ none. absurd (true_not_false (sym c.requires.keeps ∙ none));
   stripes = λ keeps.
       let v = c.args.view.now in
       let each = c.piece_blocks-each.result in

@@ -1,19 +1,14 @@
-use Rattle.std.proofs.Common.{◌≡◌, ◌∙◌, true, false, refl, sym, subst, arith}
-use Rattle.std.specs.Prelude.{Result, Ok, Err, OnOk}
+use Rattle.std.proofs.Common.{◌∙◌, refl, sym, subst, arith}
 use Rattle.std.proofs.lemmas.Result.{IfOk-weaker}
+use Rattle.ddf_lemmas.proofs.Options.{always_ok}
+use Rattle.ddf_lemmas.proofs.Tests.{true_not_false}
 use Rattle.ddf_read.specs.Reading.{Failed}
 use Rattle.ddf_cells.proofs.Whole.{readable}
 use Rattle.ddf_write.specs.Keeping.{AreGivenThem, AreTheirValues, Keeping, KeepsNone}
-use Rattle.ddf_write.proofs.Looked.{given_them, never_kept, no_parity_kept, nothing_kept, their_values}
+use Rattle.ddf_write.proofs.Looked.{given_them, no_parity_kept, nothing_kept, their_values}
 use Rattle.ddf_write.proofs.WrittenValues.{not_refused}
 use Rattle.ddf_write.proofs.beside.look_beside.Goals as goal
-
-never : true ≡ false → ⊥
-never e = cc
-
-always : {T E P : Type 0} (r : Result T E) → P → OnOk r P
-always (Ok x) p = p
-always (Err y) p = tt
+use Rattle.ddf_write.proofs.KeptValues.{never_some}
 
 pub look_at-requires-clause-readable : goal.look_at-requires-clause-readable
 look_at-requires-clause-readable g c =
@@ -33,19 +28,19 @@ returns-then-not-has_parity-clause-beside g c =
       some = omega arith;
       some_first = omega arith;
       plain = λ none. (refl, refl);
-      stripes = λ keeps. absurd (never (sym keeps ∙ sym c.if-not-has_parity.ensures));
+      stripes = λ keeps. absurd (true_not_false (sym keeps ∙ sym c.if-not-has_parity.ensures));
       all_kept = nothing_kept v c.args.start c.args.count 2048 0 _ (omega arith) (no_parity_kept v (sym c.if-not-has_parity.ensures) _) c.args.count 0 (omega arith);
-      keeps_none = subst (λ (kept : Keeping). KeepsNone v c.args.start c.args.count kept) (sym c.new.ensures) (λ element position sector bytes is. absurd (never_kept is));
+      keeps_none = subst (λ (kept : Keeping). KeepsNone v c.args.start c.args.count kept) (sym c.new.ensures) (λ element position sector bytes is. absurd (never_some is));
     }
 
 pub returns-then-not-has_parity-clause-values : goal.returns-then-not-has_parity-clause-values
 returns-then-not-has_parity-clause-values g c = λ tells sure.
-    subst (λ (kept : Keeping). AreTheirValues c.args.view.now (g.B.Bay.disks c.args.bay.now).held kept) (sym c.new.ensures) (λ element part position sector bytes cell is. absurd (never_kept is))
+    subst (λ (kept : Keeping). AreTheirValues c.args.view.now (g.B.Bay.disks c.args.bay.now).held kept) (sym c.new.ensures) (λ element part position sector bytes cell is. absurd (never_some is))
 
 pub returns-then-not-has_parity-clause-given : goal.returns-then-not-has_parity-clause-given
 returns-then-not-has_parity-clause-given g c = λ tells.
     subst (λ (kept : Keeping). AreGivenThem (Failed (g.B.Bay.disks c.args.bay.now) (g.B.Bay.disks c.args.bay.now)) c.args.view.now (g.B.Bay.disks c.args.bay.now).held kept) (sym c.new.ensures)
-    (λ element part position sector bytes cell is. absurd (never_kept is))
+    (λ element part position sector bytes cell is. absurd (never_some is))
 
 pub returns-clause-values : goal.returns-clause-values
 returns-clause-values g c = λ tells.
@@ -60,7 +55,7 @@ returns-clause-given g c = λ tells.
     c.look_at.ensures.gathers
 
 pub returns-clause-idle : goal.returns-clause-idle
-returns-clause-idle g c = λ none. absurd (never (c.if-not-has_parity.ensures ∙ none))
+returns-clause-idle g c = λ none. absurd (true_not_false (c.if-not-has_parity.ensures ∙ none))
 
 pub returns-clause-ok : goal.returns-clause-ok
-returns-clause-ok g c = always c.look_at.result (sym c.in_default.ensures.value)
+returns-clause-ok g c = always_ok c.look_at.result (sym c.in_default.ensures.value)

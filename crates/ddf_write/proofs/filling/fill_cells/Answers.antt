@@ -1,7 +1,8 @@
 use Rattle.std.proofs.Common.{◌≡◌, ◌≢◌, ◌∙◌, ◌+◌, ◌-◌, ◌/◌, Some, length, take, drop, ap, subst, arith}
+use Rattle.ddf_lemmas.proofs.Lists.{length_of_rest}
 use Rattle.ddf_primary.specs.Cells.{parity_member}
 use Rattle.ddf_array.specs.Rows.{cell_value}
-use Rattle.ddf_cells.proofs.Piecewise.{piece_more, rest_long}
+use Rattle.ddf_cells.proofs.Piecewise.{piece_more}
 use Rattle.ddf_write.specs.Writing.{IsTouched}
 use Rattle.ddf_write.proofs.filling.fill_cells.Goals as goal
 
@@ -9,18 +10,18 @@ pub fill_first-at-requires-clause-holds_data : goal.fill_first-at-requires-claus
 fill_first-at-requires-clause-holds_data c = λ k below.
     let part = c.args.part.now in
     let same : c.args.sector + (c.loop-at.at + k) ≡ c.args.sector + c.loop-at.at + k = omega arith in
-    subst (λ x. parity_member part.shape (x / part.shape.strip) ≢ Some c.args.position) same (c.requires.holds_data (c.loop-at.at + k) (omega (arith, below, rest_long c.loop-at.out c.loop-at.at, c.loop-at.auto.out)))
+    subst (λ x. parity_member part.shape (x / part.shape.strip) ≢ Some c.args.position) same (c.requires.holds_data (c.loop-at.at + k) (omega (arith, below, length_of_rest c.loop-at.out c.loop-at.at, c.loop-at.auto.out)))
 
 pub fill_first-at-requires-clause-touched : goal.fill_first-at-requires-clause-touched
 fill_first-at-requires-clause-touched c = λ k below.
     let same : c.args.sector + (c.loop-at.at + k) ≡ c.args.sector + c.loop-at.at + k = omega arith in
-    subst (λ x. IsTouched c.args.view.now c.args.start (length c.args.from.now) c.args.element x) same (c.requires.touched (c.loop-at.at + k) (omega (arith, below, rest_long c.loop-at.out c.loop-at.at, c.loop-at.auto.out)))
+    subst (λ x. IsTouched c.args.view.now c.args.start (length c.args.from.now) c.args.element x) same (c.requires.touched (c.loop-at.at + k) (omega (arith, below, length_of_rest c.loop-at.out c.loop-at.at, c.loop-at.auto.out)))
 
 pub loop-at-preserved : goal.loop-at-preserved
 loop-at-preserved c =
     let v = c.args.view.now in
     let long : length (take (length c.loop-at.out - c.loop-at.at) (drop c.loop-at.at c.loop-at.out)) ≡ length c.args.out.now - c.loop-at.at =
-    rest_long c.loop-at.out c.loop-at.at ∙ ap (λ n. n - c.loop-at.at) c.loop-at.auto.out in
+    length_of_rest c.loop-at.out c.loop-at.at ∙ ap (λ n. n - c.loop-at.at) c.loop-at.auto.out in
     record {
       inside = omega (arith, c.fill_first-at.ensures.within, long, c.loop-at.invariant.inside);
       values = λ entry image filled values.

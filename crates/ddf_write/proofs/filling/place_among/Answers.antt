@@ -1,9 +1,7 @@
 use Rattle.std.proofs.Common.{◌≡◌, ◌∙◌, ◌+◌, ◌-◌, Some, sym, ap, arith}
-use Rattle.ddf_write.proofs.RowReads.{never_some}
+use Rattle.ddf_lemmas.proofs.Options.{some_is}
 use Rattle.ddf_write.proofs.filling.place_among.Goals as goal
-
-some_is : {X : Type 0} {a b : X} → Some a ≡ Some b → a ≡ b
-some_is e = cc
+use Rattle.ddf_write.proofs.KeptValues.{never_some}
 
 pub returns-then-block-start : goal.returns-then-block-start
 returns-then-block-start c = λ k below same. omega (arith, some_is (c.in-Some.ensures ∙ same), c.if-block-start.true)

@@ -1,7 +1,8 @@
-use Rattle.std.proofs.Common.{◌≡◌, ◌∙◌, ⊎_elim, ◌+◌, ◌<◌, ◌≤◌, Some, arith, ap, subst, sym, length}
+use Rattle.std.proofs.Common.{◌≡◌, ◌∙◌, ⊎_elim, ◌+◌, ◌<◌, ◌≤◌, arith, ap, subst, sym, length}
 use Rattle.std.proofs.lemmas.Bool.{cases_lt}
 use Rattle.std.proofs.lemmas.Option.{slice_get_within}
 use Rattle.std.proofs.lemmas.Result.{err_from_is_err_and}
+use Rattle.ddf_lemmas.proofs.Options.{some_is}
 use Rattle.ddf_primary.specs.Cells.{depth_of}
 use Rattle.ddf_primary.proofs.ShapeFacts.{depth_le}
 use Rattle.ddf_array.specs.declared.part.Part.{Part}
@@ -13,9 +14,6 @@ use Rattle.ddf_write.specs.Gathering.{IsKnownAt, IsOfAnother, IsSplitRow, NoneLe
 use Rattle.ddf_write.proofs.Gathered.{gathers_start, gathers_then, known_grows, left_beside, missed_by, unmarked}
 use Rattle.ddf_write.proofs.Splitting.{splits_row}
 use Rattle.ddf_write.proofs.look.keep_run_of_rows.Goals as goal
-
-some_is : {X : Type 0} {a b : X} → Some a ≡ Some b → a ≡ b
-some_is e = cc
 
 pub loop-position-init : goal.loop-position-init
 loop-position-init g c = record {

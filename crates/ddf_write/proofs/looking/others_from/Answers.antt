@@ -1,11 +1,9 @@
 use Rattle.std.proofs.Common.{◌≡◌, ◌∙◌, ⊎_elim, ℕ, ◌+◌, ◌-◌, ◌<◌, ◌≤◌, Some, sym, ap, arith}
 use Rattle.std.proofs.lemmas.Bool.{cases_lt}
+use Rattle.ddf_lemmas.proofs.Options.{some_is}
 use Rattle.ddf_cells.proofs.BlockOf.{block_within}
-use Rattle.ddf_write.proofs.RowReads.{never_some}
 use Rattle.ddf_write.proofs.looking.others_from.Goals as goal
-
-some_is : {X : Type 0} {a b : X} → Some a ≡ Some b → a ≡ b
-some_is e = cc
+use Rattle.ddf_write.proofs.KeptValues.{never_some}
 
 pub blocks_along-requires-clause-block : goal.blocks_along-requires-clause-block
 blocks_along-requires-clause-block c = block_within c.args.view.now c.args.element c.args.position c.args.sector c.in-Some.block (sym c.in-Some.ensures)

@@ -1,13 +1,11 @@
-use Rattle.std.proofs.Common.{◌≡◌, Some, ◌∙◌, ◌+◌, [], sym, ap, arith}
+use Rattle.std.proofs.Common.{◌≡◌, ◌∙◌, ◌+◌, [], sym, ap, arith}
 use Rattle.std.specs.Prelude.{slice_index_or}
+use Rattle.ddf_lemmas.proofs.Options.{some_is}
 use Rattle.ddf_parity.specs.Xor.{xor}
 use Rattle.ddf_array.specs.declared.part.Part.{Part}
 use Rattle.ddf_array.specs.Rows.{cell_value}
 use Rattle.ddf_cells.proofs.SumSteps.{none_added, one_added}
 use Rattle.ddf_write.proofs.row.add_cells.Goals as goal
-
-some_is : {X : Type 0} {a b : X} → Some a ≡ Some b → a ≡ b
-some_is e = cc
 
 pub fill_cells-requires-clause-holds_data : goal.fill_cells-requires-clause-holds_data
 fill_cells-requires-clause-holds_data c = λ k below same. c.if-other-parity.false (some_is (sym same ∙ c.requires.parity k (omega (arith, below, c.requires.room))))

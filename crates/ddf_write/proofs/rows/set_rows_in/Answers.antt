@@ -1,9 +1,9 @@
 use Rattle.std.proofs.Common.{◌≡◌, ◌∙◌, true, false, length, refl, sym, ap, arith}
 use Rattle.std.proofs.lemmas.Result.{err_from_is_err_and}
+use Rattle.std.proofs.lemmas.Map.Keys.{any_passes_from_place}
 use Rattle.ddf_array.specs.Levels.{keeps_parity}
 use Rattle.ddf_write.specs.RowWrites.{IsNoted, IsSummed, keeps_parity_in}
 use Rattle.ddf_write.specs.Writing.{MayGive}
-use Rattle.ddf_cells.proofs.Items.{any_at}
 use Rattle.ddf_cells.proofs.WriteSteps.{writes_start, writes_then}
 use Rattle.ddf_write.proofs.RowLoops.{cells_of_parity, filled_then, parity_within, rows_no_part, rows_no_parity, stopped_since}
 use Rattle.ddf_write.proofs.rows.set_rows_in.Goals as goal
@@ -79,14 +79,14 @@ returns-clause-noted g c = λ sector part one is.
 
 pub returns-clause-calls : goal.returns-clause-calls
 returns-clause-calls g c = λ none.
-    absurd (never (sym (any_at keeps_parity_in c.args.view.now.parts c.args.element c.in-Some.part.now c.in-Some.ensures.found (ap keeps_parity (sym c.layout.ensures) ∙ sym c.if-not-keeps_parity.ensures)) ∙ none))
+    absurd (never (sym (any_passes_from_place keeps_parity_in c.args.view.now.parts c.args.element c.in-Some.part.now c.in-Some.ensures.found (ap keeps_parity (sym c.layout.ensures) ∙ sym c.if-not-keeps_parity.ensures)) ∙ none))
   where
     never : true ≡ false → ⊥
     never e = cc
 
 pub returns-in_err-k-clause-calls : goal.returns-in_err-k-clause-calls
 returns-in_err-k-clause-calls g c = λ none.
-    absurd (never (sym (any_at keeps_parity_in c.args.view.now.parts c.args.element c.in-Some.part.now c.in-Some.ensures.found (ap keeps_parity (sym c.layout.ensures) ∙ sym c.if-not-keeps_parity.ensures)) ∙ none))
+    absurd (never (sym (any_passes_from_place keeps_parity_in c.args.view.now.parts c.args.element c.in-Some.part.now c.in-Some.ensures.found (ap keeps_parity (sym c.layout.ensures) ∙ sym c.if-not-keeps_parity.ensures)) ∙ none))
   where
     never : true ≡ false → ⊥
     never e = cc

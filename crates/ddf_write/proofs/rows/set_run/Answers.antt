@@ -11,10 +11,10 @@ use Rattle.ddf_read.proofs.SourcesAlong.{site_further}
 use Rattle.ddf_cells.specs.Touching.{IsTouchedSlot}
 use Rattle.ddf_cells.proofs.WriteSteps.{touch_here, writes_run}
 use Rattle.ddf_write.specs.Writing.{MayGive}
-use Rattle.ddf_write.proofs.RowReads.{never_some}
 use Rattle.ddf_cells.proofs.Whole.{whole_site}
 use Rattle.ddf_write.proofs.RowSteps.{run_gives, run_only, run_set, run_written}
 use Rattle.ddf_write.proofs.rows.set_run.Goals as goal
+use Rattle.ddf_write.proofs.KeptValues.{never_some}
 
 pub site_at-requires-clause-part : goal.site_at-requires-clause-part
 site_at-requires-clause-part g c = c.requires.known.are_parts c.args.element c.args.part.now c.requires.is_part

@@ -1,5 +1,6 @@
 use Rattle.std.proofs.Common.{◌∙◌, ℕ, Err, refl, subst, sym, arith}
 use Rattle.std.proofs.lemmas.Result.{err_from_is_err_and}
+use Rattle.ddf_lemmas.proofs.Options.{ok_is}
 use Rattle.ddf_bytes.specs.Stamps.{timestamp_of}
 use Rattle.ddf_seats.specs.Group.{GroupValue}
 use Rattle.ddf_recovery.specs.Ready.{readied}
@@ -8,7 +9,6 @@ use Rattle.ddf_answer.specs.Call.{work_of}
 use Rattle.ddf_group_commands.proofs.Outcomes.{asked_of, group_read, read_still}
 use Rattle.ddf_write_commands.specs.Resync.{SparesWhatAgrees, resync_behind, resync_refusals, resync_request, resyncing}
 use Rattle.ddf_write_commands.proofs.Costs.{plan_costs}
-use Rattle.ddf_write_commands.proofs.OnePlan.{same_ok}
 use Rattle.ddf_write_commands.proofs.PlanKept.{planned, steps_are}
 use Rattle.ddf_write_commands.proofs.ResyncArray.{has_resynced}
 use Rattle.ddf_write_commands.proofs.ResyncWorks.{resync_steady}
@@ -100,6 +100,6 @@ returns-clause-resynced g c =
     c.in_ok-group.ensures.read c.resync_array.result done)
     (λ told found is.
     subst (λ (one : GroupValue). SparesWhatAgrees (work_of g.B.Bay.tells old new) one timestamp word)
-    (same_ok (sym (found_since g.B.Bay.tells resyncing resync_steady old middle new c.read_group.ensures.reads c.read_group.ensures.reads_rise c.read_group.ensures.writes_rise c.args.named timestamp word (resync_request word) group
+    (ok_is (sym (found_since g.B.Bay.tells resyncing resync_steady old middle new c.read_group.ensures.reads c.read_group.ensures.reads_rise c.read_group.ensures.writes_rise c.args.named timestamp word (resync_request word) group
     c.in_ok-group.ensures.read c.resync_array.result done) ∙ is))
     (spares told))

@@ -2,8 +2,8 @@ use Rattle.std.proofs.Common.{refl, sym, ◌∙◌}
 use Rattle.std.proofs.lemmas.Grind.{common_steps}
 use Rattle.std.proofs.Common.{arith}
 use Rattle.std.proofs.lemmas.List.Folds.{list_all-append}
+use Rattle.ddf_lemmas.proofs.Lists.{zero_first}
 use Rattle.ddf_bay.proofs.Opened.{closed_pushed}
-use Rattle.ddf_bay.proofs.Zeros.{zeros_at}
 use Rattle.ddf_bay.proofs.file.FileBay.open_as.Goals as goal
 
 pub loop-path-preserved : goal.loop-path-preserved
@@ -18,8 +18,8 @@ loop-path-preserved g c =
 
 pub returns-clause-counts : goal.returns-clause-counts
 returns-clause-counts g c = record {
-  failed_reads = zeros_at 64;
-  failed_writes = zeros_at 64;
+  failed_reads = zero_first 64;
+  failed_writes = zero_first 64;
   sectors_written = refl;
   sectors_asked = refl;
   calls = refl;

@@ -1,6 +1,7 @@
+use Rattle.ddf_lemmas.proofs.Options.{if_ok_then}
 use Rattle.ddf_hidden_logs.proofs.GivenBack.{given_first, given_second}
 use Rattle.ddf_hidden_logs.proofs.Honouring.{both_looks}
-use Rattle.ddf_hidden_logs.proofs.Looking.{if_err_then, if_ok_then}
+use Rattle.ddf_hidden_logs.proofs.Looking.{if_err_then}
 use Rattle.ddf_hidden_logs.specs.Honouring.{Exchanges}
 use Rattle.ddf_hidden_logs.proofs.honoured.Honoured.new.Goals as goal
 

@@ -1,6 +1,7 @@
 use Rattle.std.proofs.Common.{inl, inr, ⊎_elim}
+use Rattle.ddf_lemmas.proofs.Options.{some_block}
 use Rattle.ddf_primary.proofs.WholeLayouts.{raid_1_block, jbod_block, concatenated_block}
-use Rattle.ddf_primary.proofs.ShapeFacts.{none_past, some_block, raid_0_answer, raid_1_members, jbod_members}
+use Rattle.ddf_primary.proofs.ShapeFacts.{none_past, raid_0_answer, raid_1_members, jbod_members}
 use Rattle.ddf_primary.proofs.shape.Shape.block_at.Goals as goal
 use Rattle.ddf_primary.proofs.shape.Shape.block_at.Goals.{then-member-self-via-then-member-self, then-member-self-via-else-member-self+then-sector-depth}
 

@@ -1,7 +1,8 @@
 use Rattle.std.proofs.Common.{length, inl, inr, ap, arith}
+use Rattle.ddf_lemmas.proofs.Options.{some_block}
 use Rattle.ddf_secondary.specs.declared.level.SecondaryLevel.TheVariants.{Striped, Mirrored, Concatenated, Spanned}
 use Rattle.ddf_secondary.proofs.SpotFacts.{own_number}
-use Rattle.ddf_secondary.proofs.TierFacts.{none_past, some_block, level_of, level_spots, level_holds}
+use Rattle.ddf_secondary.proofs.TierFacts.{none_past, level_of, level_spots, level_holds}
 use Rattle.ddf_secondary.proofs.tiers.Tiers.block_at.Goals as goal
 use Rattle.ddf_secondary.proofs.tiers.Tiers.block_at.Goals.{then-from-sizes-via-then-from-sizes, then-from-sizes-via-else-from-sizes+then-spot-carried}
 
