@@ -192,6 +192,9 @@ for care in "./ddf --careful" "DDF_CAREFUL=1 ./ddf" "DDF_CAREFUL=yes ./ddf"; do
     ends 0 "ok sequence" "" "$care a0.img a1.img a2.img -- accept v"
     ends 3 "" "line 2 (accept w) takes the mark of an array away" "printf 'show\naccept w\n' | env $care a0.img a1.img a2.img -- batch"
     ends 3 "" "line 2 (delete v) takes an array out of the records" "printf 'show\ndelete v\n' | env $care a0.img a1.img a2.img -- batch"
+    # A byte in another line that is no text hides none.
+    ends 3 "" "line 1 (fail 1) takes a disk out of use for good" "printf 'fail 1\n\\377\n' | env $care a0.img a1.img a2.img -- batch"
+    ends 3 "" "line 2 (no text) takes an array out of the records" "printf 'show\ndelete \\377\n' | env $care a0.img a1.img a2.img -- batch"
     ends 0 "group" "" "$care a0.img a1.img a2.img -- show"
     ends 0 "group" "" "$care a0.img a1.img a2.img -- assemble"
 done
