@@ -64,7 +64,7 @@ use Rattle.ddf_data_calls.specs.Agreed.{DoDisksAgree}
 use Rattle.ddf_data_calls.specs.Promised.{counted}
 use Rattle.ddf_data_calls.proofs.Counted.{was_before}
 use Rattle.ddf_data_calls.proofs.First as start
-use Rattle.ddf_data_calls.proofs.First.{IsCalled}
+use Rattle.ddf_data_calls.proofs.First.{IsCalled, called_by}
 use Rattle.ddf_data_calls.proofs.Known.{found_few, known, recovered_few}
 use Rattle.ddf_data_calls.proofs.Split as split
 use Rattle.ddf_data_calls.proofs.Standing as standing
@@ -241,16 +241,5 @@ module _ {D : Type 0} (tells : Type 0) (told : tells) (old new : BayState D) (gr
       → AreBoth group floor new (Ends group past (is_read changed.taken.left) found (changes_in found steps) true) (λ promised. promised ≡ counted guid agree.volume new.held promises)
   accepted_counts =
       counts group old new past floor promises changed.taken.left changed.taken.newest named found
-      (record {
-        small = small;
-        long = changed.taken.every_slot;
-        read = changed.taken.read told;
-        is_found = is_found;
-        own = own;
-        admitted = admits.admitted;
-        floors = admits.have_floors;
-        all = admits.all_data;
-        told = left_held;
-        whole = whole_held;
-      })
+      (called_by tells told old new group past floor small promises named timestamp _ _ changed.taken found is_found own admits left_held whole_held)
       timestamp guid init steps are_readied agree (done_by).written (done_by).settled whole

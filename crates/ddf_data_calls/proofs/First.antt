@@ -33,10 +33,12 @@ use Rattle.ddf_data_history.specs.Carried.{IsAllData}
 use Rattle.ddf_data_history.specs.Promised.{KeepsData, seats_in}
 use Rattle.ddf_data_history.proofs.Steps.{below_floors}
 use Rattle.ddf_data_disks.specs.Seats.{AreOnSlots}
+use Rattle.ddf_answer.specs.Call.{work_of}
+use Rattle.ddf_group_commands.specs.Change.{Request, TakesGroup}
 use Rattle.ddf_group_commands.specs.Writing.{IsLeftWriting}
 use Rattle.ddf_group_commands.specs.Written.{AreWritten}
 use Rattle.ddf_write_commands.specs.Holding.{holding}
-use Rattle.ddf_data_calls.specs.Calls.{AreMade, MayAsk, left_over}
+use Rattle.ddf_data_calls.specs.Calls.{AdmitsCall, AreMade, MayAsk, left_over}
 use Rattle.ddf_data_calls.specs.Floors.{HaveFloors}
 use Rattle.ddf_data_calls.proofs.Issued.{ends_keep}
 use Rattle.ddf_data_calls.proofs.Seats as seating
@@ -59,6 +61,24 @@ pub record IsCalled {D : Type 0} (group : List ℕ) (old : BayState D) (past : P
   pub all : IsAllData group past floor old promises
   pub told : IsLeft old.may_hold old.held
   pub whole : AreSectors old.held
+
+-- It found what the slots give that it looked at, where the history of the group admits it.
+pub called_by : {D : Type 0} (tells : Type 0) → tells → (old new : BayState D) (group : List ℕ) (past : Past (groups group)) (floor : ℕ → ℕ) → ((slot : ℕ) → floor slot < 2 ^ 64) → (promises : Promises)
+    (named : Option (List ℕ)) (timestamp : ℕ) (request : Request) (done : Bool) (taken : TakesGroup (work_of tells old new) named timestamp request done) (found : GroupValue)
+    → group_of taken.newest named ≡ Ok found → found.config.group ≡ group → AdmitsCall group past floor promises old taken.left found → IsLeft old.may_hold old.held → AreSectors old.held
+    → IsCalled group old past floor promises taken.left taken.newest named found
+called_by tells told old new group past floor small promises named timestamp request done taken found is_found own admits left whole = record {
+  small = small;
+  long = taken.every_slot;
+  read = taken.read told;
+  is_found = is_found;
+  own = own;
+  admitted = admits.admitted;
+  floors = admits.have_floors;
+  all = admits.all_data;
+  told = left;
+  whole = whole;
+}
 
 module _ {D : Type 0} (group : List ℕ) (old : BayState D) (past : Past (groups group)) (floor : ℕ → ℕ) (promises : Promises) (left : List Bool) (newest : List (Option Newest)) (named : Option (List ℕ)) (found : GroupValue)
     (called : IsCalled group old past floor promises left newest named found) where

@@ -1,5 +1,5 @@
 -- How far the changes of a call on blocks have come at each of its stages, as its history tells of it.
-use Rattle.std.proofs.Common.{◌≡◌, ◌∙◌, inl, inr, ℕ, ◌+◌, ◌≤◌, Bool, true, false, List, [], ◌∷◌, ◌++◌, length, Ok, refl, sym, ap, subst, arith, length-append, if◌then◌else◌}
+use Rattle.std.proofs.Common.{◌≡◌, ◌∙◌, inl, inr, ℕ, ◌+◌, ◌≤◌, Bool, true, false, List, [], ◌∷◌, ◌++◌, length, take, Ok, refl, sym, ap, subst, arith, length-append, if◌then◌else◌}
 use Rattle.std.proofs.lemmas.List.{take-append-le}
 use Rattle.std.proofs.Math.Seq.{take-append_seam, take-length}
 use Rattle.ddf_config.specs.Configuration.{Configuration}
@@ -12,7 +12,7 @@ use Rattle.ddf_recovery.specs.Recovery.{config_lost}
 use Rattle.ddf_seats.specs.Leading.{some}
 use Rattle.ddf_steps.specs.Steps.{Step}
 use Rattle.ddf_recovery.proofs.ReadiedSteps.{behind}
-use Rattle.ddf_history_steps.specs.Going.{Goes, IsOver, begun, changes_in, issue_all}
+use Rattle.ddf_history_steps.specs.Going.{Goes, IsOver, IsUnderway, begun, changes_in, issue_all}
 use Rattle.ddf_history_steps.proofs.LastStep.{configs}
 use Rattle.ddf_data_calls.proofs.Steps.{issued_are}
 
@@ -27,28 +27,33 @@ module _ (group : List ℕ) where
   issued_acked past acked [] = refl
   issued_acked past acked (next ∷ others) = issued_acked (issue past next) acked others
 
-  -- ---- a call of more changes
+  -- ---- a call of other changes
+
+  module _ (past : Past (groups group)) (readable : ℕ → Bool) (found : GroupValue) where
+    -- One came as far that begins with the changes that were issued.
+    pub goes_by : (changes others : List Configuration) (now : Past (groups group)) (way : IsUnderway group past readable found changes now) → way.issued ≤ length others
+        → take way.issued changes ≡ take way.issued others → Goes group past readable found others now
+    goes_by changes others now way few same = inr (record {
+      number = way.number;
+      since = way.since;
+      issued = way.issued;
+      few = few;
+      loses = way.loses;
+      acked = way.acked;
+      stands = way.stands;
+      most = way.most;
+      in_turn = way.in_turn;
+      is_now = way.is_now ∙ ap (λ (some_of : List Configuration). acknowledge (issue_all group (begun group past readable found way.number) some_of) way.acked) same;
+    })
 
   module _ (past : Past (groups group)) (readable : ℕ → Bool) (found : GroupValue) (first last : List Configuration) where
-    -- One of more changes came as far.
+    -- One of more changes did.
     pub goes_more : (now : Past (groups group)) → Goes group past readable found first now → Goes group past readable found (first ++ last) now
     goes_more now (inl before) = inl before
     goes_more now (inr way) =
         let few = way.few in
         let long = length-append first last in
-        inr (record {
-          number = way.number;
-          since = way.since;
-          issued = way.issued;
-          few = omega (arith, few, long);
-          loses = way.loses;
-          acked = way.acked;
-          stands = way.stands;
-          most = way.most;
-          in_turn = way.in_turn;
-          is_now = way.is_now
-              ∙ ap (λ (changes : List Configuration). acknowledge (issue_all group (begun group past readable found way.number) changes) way.acked) (sym (take-append-le way.issued first last few));
-        })
+        goes_by past readable found first (first ++ last) now way (omega (arith, few, long)) (sym (take-append-le way.issued first last few))
 
     module _ (loses : some found.absent ≡ true → 1 ≤ length first) (before : Past (groups group)) (over : IsOver group past readable found first before) where
       -- its first changes are acknowledged;

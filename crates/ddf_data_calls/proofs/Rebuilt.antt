@@ -3,7 +3,6 @@ use Rattle.std.proofs.Common.{◌≡◌, ◌∙◌, inl, inr, ⊎_elim, ℕ, zer
 use Rattle.std.proofs.Math.Seq.{take-length}
 use Rattle.std.specs.Prelude.{option_to_list, slice_get}
 use Rattle.ddf_lemmas.proofs.Options.{some_is}
-use Rattle.ddf_bay.specs.ReadsOnly.{ReadsOnly}
 use Rattle.ddf_bay.specs.Sectors.{Image, IsLeft}
 use Rattle.ddf_bay.specs.State.{BayState}
 use Rattle.ddf_bay.specs.Moments.{StopsLeave}
@@ -48,12 +47,12 @@ use Rattle.ddf_rebuild_command.specs.Stages.Stage.{Filling, Noting, Opening}
 use Rattle.ddf_data_calls.proofs.Begins as begins
 use Rattle.ddf_data_calls.proofs.Begins.{mark_in}
 use Rattle.ddf_data_calls.proofs.Filling as filling
-use Rattle.ddf_data_calls.proofs.First.{IsCalled}
+use Rattle.ddf_data_calls.proofs.First.{IsCalled, called_by}
 use Rattle.ddf_data_calls.proofs.FloorsRebuilt as floors
 use Rattle.ddf_data_calls.proofs.Floored.{writing_own}
 use Rattle.ddf_data_calls.proofs.Gone.{acked_goes, goes_more, issued_goes, over_goes, steps_lose}
 use Rattle.ddf_data_calls.proofs.NotedSteps.{few_issued}
-use Rattle.ddf_data_calls.proofs.Taken.{only_reads}
+use Rattle.ddf_data_calls.proofs.Taken.{none_came}
 use Rattle.ddf_write_commands.proofs.StepFloors.{readied_floors}
 use Rattle.ddf_rebuild_command.proofs.BackCame.{steps_same}
 
@@ -208,46 +207,12 @@ module _ {D : Type 0} (tells : Type 0) (told : tells) (old new : BayState D) (gr
     (whole : (image : Image) → IsLeft new.may_hold image → AreSectors image) (told_since : (t : ℕ) (image : Image) → new.left_since t image → new.tells_left)
     (steps : List Step) (are_asked : steps_asked found timestamp (rebuild_request word (linux_members found)) ≡ Ok steps) where
   called : IsCalled group old past floor promises rebuilt.taken.left rebuilt.taken.newest named found
-  called = record {
-    small = small;
-    long = rebuilt.taken.every_slot;
-    read = rebuilt.taken.read told;
-    is_found = is_found;
-    own = own;
-    admitted = admits.admitted;
-    floors = admits.have_floors;
-    all = admits.all_data;
-    told = left_held;
-    whole = whole_held;
-  }
+  called = called_by tells told old new group past floor small promises named timestamp _ _ rebuilt.taken found is_found own admits left_held whole_held
 
   abbrev Both : List Step → Type 0
   Both some =
       KeepsBoth group old new floor (Goes group past (is_read rebuilt.taken.left) found (changes_in found some))
       (Ends group past (is_read rebuilt.taken.left) found (changes_in found some) (is_done outcome)) (Stays promises) (Stays promises)
-
-  -- where nothing was written
-  read_both : is_done outcome ≡ false → ReadsOnly old new → Both steps
-  read_both none reads =
-      let kept = only_reads group old new past floor promises reads admits.all_kept admits.all_data in
-      record {
-        any_moment = record {
-          later = kept.any_moment.later;
-          since = λ t image le was_left. ⊎_elim inl
-              (λ way. inr (λ are. let both = way are in record { now = both.now; promised = both.promised; goes = inl both.goes; may = both.may; is_kept = both.is_kept; keeps = both.keeps }))
-              (kept.any_moment.since t image le was_left);
-        };
-        ends = λ tells_left.
-            let end = kept.ends tells_left in
-            record {
-              now = end.now;
-              promised = end.promised;
-              ends = subst (λ (done : Bool). Ends group past (is_read rebuilt.taken.left) found (changes_in found steps) done end.now) (sym none) (inl end.ends);
-              is_so = end.is_so;
-              all_kept = end.all_kept;
-              all_data = end.all_data;
-            };
-      }
 
   -- where the group was recovered, no more
   module _ (idle : IsIdle found timestamp word) where
@@ -287,7 +252,7 @@ module _ {D : Type 0} (tells : Type 0) (told : tells) (old new : BayState D) (gr
   pub both_kept : KeepsBoth group old new floor (Goes group past (is_read rebuilt.taken.left) found (changes_in found steps))
       (Ends group past (is_read rebuilt.taken.left) found (changes_in found steps) (is_done outcome)) (Stays promises) (Stays promises)
   both_kept = ⊎_elim
-      (λ none. read_both none.0 none.1)
+      (λ none. none_came group old new past floor promises rebuilt.taken.left found (changes_in found steps) (is_done outcome) none.0 none.1 admits.all_kept admits.all_data)
       (⊎_elim
       idle_both
       (λ come.

@@ -45,7 +45,7 @@ use Rattle.ddf_data_calls.specs.Promised.{counted, with_allowed}
 use Rattle.ddf_data_calls.proofs.Accepted.{HasView, accepted_plan, has_view, mark_of, two_pass}
 use Rattle.ddf_data_calls.proofs.Both as both
 use Rattle.ddf_data_calls.proofs.Both.{IsSplit}
-use Rattle.ddf_data_calls.proofs.First.{IsCalled}
+use Rattle.ddf_data_calls.proofs.First.{IsCalled, called_by}
 use Rattle.ddf_data_calls.proofs.ByWrite.{by_resync}
 use Rattle.ddf_data_calls.proofs.Prepared as prepared
 use Rattle.ddf_data_calls.proofs.Staged as staged
@@ -90,18 +90,7 @@ module _ {D : Type 0} (tells : Type 0) (told : tells) (old new : BayState D) (gr
     (admits : AdmitsCall group past floor promises old resynced.taken.left found) (left_held : IsLeft old.may_hold old.held) (whole_held : AreSectors old.held)
     (plan : IsPlanned found timestamp word (resync_request word)) (whole : (image : Image) → IsLeft new.may_hold image → AreSectors image) where
   called : IsCalled group old past floor promises resynced.taken.left resynced.taken.newest named found
-  called = record {
-    small = small;
-    long = resynced.taken.every_slot;
-    read = resynced.taken.read told;
-    is_found = is_found;
-    own = own;
-    admitted = admits.admitted;
-    floors = admits.have_floors;
-    all = admits.all_data;
-    told = left_held;
-    whole = whole_held;
-  }
+  called = called_by tells told old new group past floor small promises named timestamp _ _ resynced.taken found is_found own admits left_held whole_held
 
   has : HasView (config_recovered found) found.seats plan.entry
   has =

@@ -5,6 +5,7 @@ use Rattle.ddf_bay.specs.ReadsOnly.{ReadsOnly}
 use Rattle.ddf_bay.specs.Sectors.{Image, IsLeft}
 use Rattle.ddf_bay.specs.State.{BayState}
 use Rattle.ddf_config.specs.declared.refusal.Refusal.TheVariants.{Degraded, Lost, Marked}
+use Rattle.ddf_config.specs.Configuration.{Configuration}
 use Rattle.ddf_config.specs.States.{is_marked}
 use Rattle.ddf_plan.specs.declared.change.Change.{Change}
 use Rattle.ddf_plan.specs.declared.change.Change.TheVariants.{Unmark}
@@ -39,7 +40,7 @@ use Rattle.ddf_data_calls.specs.Promised.{HasGiven, IsWrittenOf, MayBeWritten, i
 use Rattle.ddf_data_calls.proofs.Accepted.{HasView, accepted_plan, has_view, mark_of, three_pass}
 use Rattle.ddf_data_calls.proofs.Both as both
 use Rattle.ddf_data_calls.proofs.Both.{IsSplit}
-use Rattle.ddf_data_calls.proofs.First.{IsCalled}
+use Rattle.ddf_data_calls.proofs.First.{IsCalled, called_by}
 use Rattle.ddf_data_calls.proofs.ByWrite.{by_write}
 use Rattle.ddf_data_calls.proofs.Prepared as prepared
 use Rattle.ddf_data_calls.proofs.Staged as staged
@@ -70,6 +71,31 @@ only_reads group old new past floor promises reads kept all = record {
     all_data = λ image left. all image (λ s l. reads.keeps s l (image s l) (left s l));
   };
 }
+
+-- a call that only read issued none of its changes, where it says that they aren't done
+pub none_came : (group : List ℕ) {D : Type 0} (old new : BayState D) (past : Past (groups group)) (floor : ℕ → ℕ) (promises : Promises) (left : List Bool) (found : GroupValue) (changes : List Configuration) (done : Bool)
+    → done ≡ false → ReadsOnly old new → AreAllKept group past old → IsAllData group past floor old promises
+    → KeepsBoth group old new floor (Goes group past (is_read left) found changes) (Ends group past (is_read left) found changes done) (Stays promises) (Stays promises)
+none_came group old new past floor promises left found changes done none reads all_kept all_data =
+    let kept = only_reads group old new past floor promises reads all_kept all_data in
+    record {
+      any_moment = record {
+        later = kept.any_moment.later;
+        since = λ t image le was_left. ⊎_elim inl
+            (λ way. inr (λ are. let both = way are in record { now = both.now; promised = both.promised; goes = inl both.goes; may = both.may; is_kept = both.is_kept; keeps = both.keeps }))
+            (kept.any_moment.since t image le was_left);
+      };
+      ends = λ tells_left.
+          let end = kept.ends tells_left in
+          record {
+            now = end.now;
+            promised = end.promised;
+            ends = subst (λ (is : Bool). Ends group past (is_read left) found changes is end.now) (sym none) (inl end.ends);
+            is_so = end.is_so;
+            all_kept = end.all_kept;
+            all_data = end.all_data;
+          };
+    }
 
 -- a write that took no bytes only read
 pub untaken : {D : Type 0} (tells : Type 0) (old new : BayState D) (input : Input) (named : Option (List ℕ)) (timestamp : ℕ) (word : List ℕ) (start count : ℕ) (outcome : Outcome)
@@ -120,18 +146,7 @@ module _ {D : Type 0} (tells : Type 0) (told : tells) (old new : BayState D) (gr
     (admits : AdmitsCall group past floor promises old wrote.taken.left found) (left_held : IsLeft old.may_hold old.held) (whole_held : AreSectors old.held)
     (plan : IsPlanned found timestamp word (write_request word start count)) (whole : (image : Image) → IsLeft new.may_hold image → AreSectors image) where
   called : IsCalled group old past floor promises wrote.taken.left wrote.taken.newest named found
-  called = record {
-    small = small;
-    long = wrote.taken.every_slot;
-    read = wrote.taken.read told;
-    is_found = is_found;
-    own = own;
-    admitted = admits.admitted;
-    floors = admits.have_floors;
-    all = admits.all_data;
-    told = left_held;
-    whole = whole_held;
-  }
+  called = called_by tells told old new group past floor small promises named timestamp _ _ wrote.taken found is_found own admits left_held whole_held
 
   record IsFit : Type 0 where
     pub has : HasView (config_recovered found) found.seats plan.entry

@@ -24,6 +24,7 @@ use Rattle.ddf_history_steps.proofs.MembersKept.{change_from}
 use Rattle.ddf_data_history.specs.Promised.{AreAlone, KeepsData, seats_in}
 use Rattle.ddf_data_history.proofs.Steps.{by_acknowledge}
 use Rattle.ddf_data_calls.specs.Calls.{AreMade, left_over}
+use Rattle.ddf_data_calls.proofs.Gone.{goes_by}
 use Rattle.ddf_data_calls.proofs.Issued.{ends_keep}
 
 -- ---- the recovery
@@ -186,17 +187,5 @@ module _ (group : List ℕ) (floor : ℕ → ℕ) (small : (slot : ℕ) → floo
       (whole_keeps way.number way.since way.acked (first_acked now way all)))
       (λ some_of.
       let within : way.issued ≤ length first = omega (arith, some_of) in
-      first_keeps false now (inr (record {
-        number = way.number;
-        since = way.since;
-        issued = way.issued;
-        few = within;
-        loses = way.loses;
-        acked = way.acked;
-        stands = way.stands;
-        most = way.most;
-        in_turn = way.in_turn;
-        is_now = way.is_now
-            ∙ ap (λ (changes : List Configuration). acknowledge (issue_all group (begun group past readable native way.number) changes) way.acked) (take-append-le way.issued first (next ∷ []) within);
-      })))
+      first_keeps false now (goes_by group past readable native (first ++ next ∷ []) first now way within (take-append-le way.issued first (next ∷ []) within)))
       (cases_lt (length first) way.issued)

@@ -1,7 +1,7 @@
 -- A current member that a call reads stays one through each of the call's steps, where its changes lose none.
-use Rattle.std.proofs.Common.{◌≡◌, ◌∙◌, ℕ, zero, suc, ◌<◌, ◌++◌, ◌||◌, Bool, true, false, List, [], ◌∷◌, length, map, Option, Some, None, Result, Ok, Err, if◌then◌else◌, refl, sym, ap, subst}
+use Rattle.std.proofs.Common.{◌≡◌, ◌∙◌, ℕ, ◌<◌, ◌++◌, ◌||◌, Bool, true, false, List, [], ◌∷◌, length, Option, Some, None, Ok, if◌then◌else◌, refl, sym, ap, subst}
 use Rattle.std.proofs.lemmas.Bool.{false_from_ne_true}
-use Rattle.std.specs.Prelude.{IsTrue, option_to_list, slice_index_or}
+use Rattle.std.specs.Prelude.{IsTrue, slice_index_or}
 use Rattle.std.specs.List.{AllByRecursion}
 use Rattle.ddf_lemmas.proofs.Lists.{in_map}
 use Rattle.ddf_bay.specs.Memory.{disks_of}
@@ -17,28 +17,22 @@ use Rattle.ddf_copy.specs.declared.newest_copy.Newest.{Newest}
 use Rattle.ddf_plan.specs.declared.change.Change.{Change}
 use Rattle.ddf_plan.specs.declared.change.Change.TheVariants.{Create, Mark, Unmark}
 use Rattle.ddf_plan.specs.Members.{member_after}
-use Rattle.ddf_plan.specs.Same.{is_step}
 use Rattle.ddf_array.specs.Viewing.{is_array_redundant}
-use Rattle.ddf_rewrite.proofs.Lists.{some_same}
 use Rattle.ddf_history.specs.Groups.{Disk, groups, has_current}
 use Rattle.ddf_history.specs.Issued.{IsSince, leave_out}
 use Rattle.ddf_history.specs.Scenes.{scene_of}
 use Rattle.ddf_history.proofs.Assembling.{read_as}
 use Rattle.ddf_history.proofs.Calls.{claims as members_claimed}
 use Rattle.ddf_history.proofs.Sound.{groups_are_sound}
-use Rattle.ddf_seats.specs.declared.seated.Seated.{Seated}
 use Rattle.ddf_steps.specs.Committed.{slots_of}
 use Rattle.ddf_seats.specs.Group.{GroupValue}
 use Rattle.ddf_assembly.specs.Group.{group_of}
 use Rattle.ddf_recovery.specs.Ready.{readied}
-use Rattle.ddf_steps.specs.Ready.{steps_from, with_step}
-use Rattle.ddf_recovery.specs.Recovery.{config_lost, config_recovered, disks_recovered, lost_step, mending_step, recovery_of}
+use Rattle.ddf_recovery.specs.Recovery.{config_recovered}
 use Rattle.ddf_seats.specs.Leading.{some}
-use Rattle.ddf_steps.specs.Refusing.{step_refusal}
 use Rattle.ddf_assembly.specs.Slots.{newest_from}
-use Rattle.ddf_steps.specs.Steps.{Step, config_after, step_of}
-use Rattle.ddf_seats.specs.Seated.{levelled}
-use Rattle.ddf_recovery.proofs.ReadiedSteps.{are_tried, behind, steps_are}
+use Rattle.ddf_steps.specs.Steps.{Step, config_after}
+use Rattle.ddf_recovery.proofs.ReadiedSteps.{behind}
 use Rattle.ddf_history_steps.specs.Kept.{is_read, is_slot}
 use Rattle.ddf_history_steps.proofs.Begun.{assembled_kept, assembled_since}
 use Rattle.ddf_history_steps.proofs.Claimed as claims
@@ -59,6 +53,7 @@ use Rattle.ddf_data_events.specs.Moments.{Moment}
 use Rattle.ddf_data_events.proofs.Floors.{by_held}
 use Rattle.ddf_data_life.specs.Histories.{IsDataHistoryOn, LeavesLostOut}
 use Rattle.ddf_data_life.proofs.Goes.{has_member, out_gone, readable, shown}
+use Rattle.ddf_data_life.proofs.KeptSteps.{each_keep}
 use Rattle.ddf_data_life.proofs.Memory.{bays}
 
 -- ---- changes that lose no member
@@ -70,55 +65,10 @@ module _ (disk : Disk) where
   goes : (config : Configuration) (change : Change) → LosesNone change → has_current config disk ≡ true → has_current (config_after config change) disk ≡ true
   goes config change none was = kept_current [] config change (none config) (config_after config change).sequence disk ∙ was
 
-  cons_keep : (step : Step) (others : List Step) → has_current step.config disk ≡ true → KeepDisk others disk → KeepDisk (step ∷ others) disk
-  cons_keep step others here rest zero one at = let same : step ≡ one = some_same refl at in subst (λ (each : Step). has_current each.config disk ≡ true) same here
-  cons_keep step others here rest (suc place) one at = rest place one at
-
-  made_keep : (made : Step) (rest : Result (List Step) Refusal) (steps : List Step) → has_current made.config disk ≡ true
-      → ((others : List Step) → rest ≡ Ok others → KeepDisk others disk) → with_step made rest ≡ Ok steps → KeepDisk steps disk
-  made_keep made (Err refusal) steps here all is = absurd cc
-  made_keep made (Ok others) steps here all is = let same : made ∷ others ≡ steps = cc in subst (λ (each : List Step). KeepDisk each disk) same (cons_keep made others here (all others refl))
-
-  next_keep : (refusal : Option Refusal) (alters : Bool) (made : Step) (rest stay : Result (List Step) Refusal) (steps : List Step) → has_current made.config disk ≡ true
-      → ((others : List Step) → rest ≡ Ok others → KeepDisk others disk) → ((others : List Step) → stay ≡ Ok others → KeepDisk others disk)
-      → ◌≡◌ {A = Result (List Step) Refusal} (elim refusal [ Some one ↦ Err one | None ↦ if alters then with_step made rest else stay ]) (Ok steps) → KeepDisk steps disk
-  next_keep (Some one) alters made rest stay steps here all same is = absurd cc
-  next_keep None true made rest stay steps here all same is = made_keep made rest steps here all is
-  next_keep None false made rest stay steps here all same is = same steps is
-
-  steps_keep : (timestamp : ℕ) (changes : List Change) → AllByRecursion LosesNone changes → (config : Configuration) (disks : List Seated) (steps : List Step) → has_current config disk ≡ true
-      → steps_from timestamp None changes config disks ≡ Ok steps → KeepDisk steps disk
-  steps_keep timestamp [] none config disks steps from is = let same : [] ≡ steps = cc in subst (λ (each : List Step). KeepDisk each disk) same (λ place step at. absurd cc)
-  steps_keep timestamp (change ∷ changes) none config disks steps from is =
-      let made = step_of timestamp config disks change in
-      next_keep (step_refusal timestamp None config disks change) (is_step config change) made (steps_from timestamp None changes made.config (map levelled made.disks))
-      (steps_from timestamp None changes config disks) steps (goes config change none.0 from)
-      (λ others are. steps_keep timestamp changes none.1 made.config (map levelled made.disks) others (goes config change none.0 from) are)
-      (λ others are. steps_keep timestamp changes none.1 config disks others from are)
-      is
-
-  module _ (found : GroupValue) (timestamp : ℕ) (current : has_current (config_recovered found) disk ≡ true) where
-    recovery_keeps : (step : Step) → recovery_of timestamp found ≡ Some step → has_current step.config disk ≡ true
-    unfolding recovery_of config_recovered
-    recovery_keeps step is = by (some found.absent) (some found.lagging) current is
-      where
-        by : (absent lagging : Bool) → has_current (if absent then config_lost found else found.config) disk ≡ true
-            → (if absent then Some (lost_step timestamp found) else if lagging then Some (mending_step timestamp found) else None) ≡ Some step → has_current step.config disk ≡ true
-        by true lagging now at = subst (λ (one : Step). has_current one.config disk ≡ true) (some_same refl at) now
-        by false true now at = subst (λ (one : Step). has_current one.config disk ≡ true) (some_same refl at) now
-        by false false now at = absurd cc
-
-    with_recovery : (next : Option Step) (others : List Step) → ((step : Step) → next ≡ Some step → has_current step.config disk ≡ true) → KeepDisk others disk
-        → KeepDisk (option_to_list next ++ others) disk
-    with_recovery None others first rest = rest
-    with_recovery (Some step) others first rest = cons_keep step others (first step refl) rest
-
-    -- So each step of the changes keeps it, the recovery too.
-    pub readied_keep : (changes : List Change) → AllByRecursion LosesNone changes → (steps : List Step) → readied found changes timestamp ≡ Ok steps → KeepDisk steps disk
-    readied_keep changes none steps are =
-        subst (λ (each : List Step). KeepDisk each disk) (sym (steps_are found changes timestamp steps are))
-        (with_recovery (recovery_of timestamp found) (behind found changes timestamp steps are) recovery_keeps
-        (steps_keep timestamp changes none (config_recovered found) (disks_recovered timestamp found) (behind found changes timestamp steps are) current (are_tried found changes timestamp steps are)))
+  -- So each step of such changes keeps it, the recovery too.
+  pub readied_keep : (found : GroupValue) (timestamp : ℕ) → has_current (config_recovered found) disk ≡ true → (changes : List Change) → AllByRecursion LosesNone changes → (steps : List Step)
+      → readied found changes timestamp ≡ Ok steps → KeepDisk steps disk
+  readied_keep = each_keep disk LosesNone goes
 
 -- ---- the changes of commands
 

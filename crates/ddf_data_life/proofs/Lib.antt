@@ -4,6 +4,7 @@ pub mod Calls
 pub mod Losses
 pub mod Young
 pub mod Printed
+pub mod KeptSteps
 pub mod Kept
 pub mod Labels
 pub mod Lives

@@ -58,7 +58,8 @@ use Rattle.ddf_data_life.proofs.Kept.{resync_keeps, write_keeps}
 use Rattle.ddf_data_life.proofs.Memory.{bays}
 use Rattle.ddf_data_lives.specs.Sparing.{FailsNot}
 use Rattle.ddf_data_lives.specs.Standing.{KeepsDisk, Stands}
-use Rattle.ddf_data_lives.proofs.Sparing.{change_keeps, copyback_keeps, issued_keep, rebuild_keeps, recovered_keep}
+use Rattle.ddf_data_life.proofs.KeptSteps.{recovered_keep}
+use Rattle.ddf_data_lives.proofs.Sparing.{change_keeps, copyback_keeps, issued_keep, rebuild_keeps}
 
 -- ---- members that a join keeps
 

@@ -50,7 +50,8 @@ acked_same group old new same = record {
 
 module _ (group : List ℕ) (kept : ℕ) (disk : Disk) where
   module _ (old : Moment group MemoryBay) (stands : Stands group kept disk old) where
-    member : (disks_of old.bay).tells_left → HasMemberOn group old.past old.bay
+    -- the disk that stands, as a member that can be read
+    pub member : (disks_of old.bay).tells_left → HasMemberOn group old.past old.bay
     member told =
         let shown = stands.data_history.history.kept (disks_of old.bay).held (reads_left old.bay told) in
         record {
@@ -62,7 +63,8 @@ module _ (group : List ℕ) (kept : ℕ) (disk : Disk) where
           is_current = ap (has_current shown.last) stands.same_disk ∙ stands.current old.past.changes.acked shown.last (record { late = omega arith; is_there = shown.is_last });
         }
 
-    unread : (left : List Bool) → length left ≡ length (disks_of old.bay).sizes → AreOut (disks_of old.bay) left → LeavesLostOut group old.past left
+    -- A slot that counts as lost was left out.
+    pub unread : (left : List Bool) → length left ≡ length (disks_of old.bay).sizes → AreOut (disks_of old.bay) left → LeavesLostOut group old.past left
     unread left every_slot out slot lost =
         false_from_ne_true (is_read left slot) (λ read.
         let low = read_below left slot read in

@@ -1,6 +1,6 @@
 -- A command that was done where a disk stands is a turn of its life.
 use Rattle.std.proofs.Common.{◌≡◌, ◌∙◌, ℕ, ◌++◌, ◌==◌, ◌<◌, Bool, true, false, List, length, Option, Some, None, Result, Ok, Err, refl, sym, ap, subst, inl, inr, ⊎_elim, arith}
-use Rattle.std.proofs.lemmas.Bool.{eqb-true, false_from_ne_true}
+use Rattle.std.proofs.lemmas.Bool.{eqb-true}
 use Rattle.ddf_bytes.specs.Streams.{SourceState}
 use Rattle.ddf_bytes.specs.declared.stamp.Stamp.{Stamp}
 use Rattle.ddf_bay.specs.Memory.{disks_of, state_of, without}
@@ -14,8 +14,7 @@ use Rattle.ddf_config.specs.Configuration.{Configuration}
 use Rattle.ddf_plan.specs.declared.change.Change.{Change}
 use Rattle.ddf_plan.specs.Lose.{is_among}
 use Rattle.ddf_plan.specs.Members.{lost_by}
-use Rattle.ddf_history.specs.Groups.{Disk, has_current}
-use Rattle.ddf_history_steps.specs.Kept.{is_read}
+use Rattle.ddf_history.specs.Groups.{Disk}
 use Rattle.ddf_group.specs.declared.answer.Assembly.{Assembly}
 use Rattle.ddf_seats.specs.Group.{GroupValue}
 use Rattle.ddf_assembly.specs.Group.{group_of}
@@ -43,20 +42,20 @@ use Rattle.ddf_write_commands.specs.Write.Outcome.{Broken, NotRead, Short, Taken
 use Rattle.ddf_rebuild_command.specs.Asked.{rebuild_request}
 use Rattle.ddf_rebuild_command.specs.Rebuilt.{IsRebuildDone, IsRebuiltIn}
 use Rattle.ddf_rebuild_command.specs.Rounds.{steps_of as steps_of_rounds}
-use Rattle.ddf_history_memory.specs.Histories.{GoesWell, HasMemberOn}
-use Rattle.ddf_history_memory.proofs.Slots.{before_told, not_read, read_below, reads_left}
+use Rattle.ddf_history_memory.specs.Histories.{GoesWell}
+use Rattle.ddf_history_memory.proofs.Slots.{before_told}
 use Rattle.ddf_data_calls.specs.Calls.{MayWish}
 use Rattle.ddf_data_calls.proofs.Wished.{wish_may}
 use Rattle.ddf_data_events.specs.Calls.{ChangeCall}
 use Rattle.ddf_data_events.specs.Calls.Call.{Changes, Reads, Rebuilds, Resyncs, Writes}
 use Rattle.ddf_data_events.specs.Moments.{Moment}
-use Rattle.ddf_data_life.specs.Histories.{CallOn, FindsOn, LeavesLostOut, exit_on, read_as}
+use Rattle.ddf_data_life.specs.Histories.{CallOn, FindsOn, exit_on, read_as}
 use Rattle.ddf_data_life.proofs.Calls.{finds}
 use Rattle.ddf_data_lives.specs.Sparing.{FailsNot}
 use Rattle.ddf_data_lives.specs.Standing.{Behind, KeepsDisk, Stands, Turn}
 use Rattle.ddf_data_lives.specs.Standing.Turn.{Ended, Unplugged}
 use Rattle.ddf_data_lives.proofs.Keeping.{keeps_on}
-use Rattle.ddf_data_lives.proofs.Standing.{follows}
+use Rattle.ddf_data_lives.proofs.Standing.{follows, member, unread}
 use Rattle.ddf_exercise.specs.declared.steps.Step.{Step}
 use Rattle.ddf_exercise.specs.declared.steps.Step.TheVariants as steps
 use Rattle.ddf_exercise.specs.declared.draws.Fill.{Fill}
@@ -98,27 +97,6 @@ module _ (group : List ℕ) (kept : ℕ) (disk : Disk) where
         let on = follows group kept disk old stands (Unplugged bay slot is plugged) in
         record { turn = Unplugged bay slot is plugged; is_of = refl; next = on.next; comes = on.behind_it; next_stands = on.next_stands; is_bay = on.behind_it.is_bay }
 
-    -- the disk that stands, as a member that can be read
-    member : (disks_of old.bay).tells_left → HasMemberOn group old.past old.bay
-    member told =
-        let shown = stands.data_history.history.kept (disks_of old.bay).held (reads_left old.bay told) in
-        record {
-          slot = kept;
-          there = stands.there;
-          plugged = stands.plugged;
-          config = shown.last;
-          is_last = shown.is_last;
-          is_current = ap (has_current shown.last) stands.same_disk ∙ stands.current old.past.changes.acked shown.last (record { late = omega arith; is_there = shown.is_last });
-        }
-
-    -- A slot that counts as lost was left out.
-    unread : (left : List Bool) → length left ≡ length (disks_of old.bay).sizes → AreOut (disks_of old.bay) left → LeavesLostOut group old.past left
-    unread left every_slot out slot lost =
-        false_from_ne_true (is_read left slot) (λ read.
-        let low = read_below left slot read in
-        let there : slot < length (disks_of old.bay).sizes = subst (λ (n : ℕ). slot < n) every_slot low in
-        not_read left slot (out slot low (stands.data_history.history.lost_gone slot there lost)) read)
-
     module _ (exit : MemoryBay) (well : GoesWell old.bay exit) (told : (disks_of exit).tells_left) (answer : Answer) (zero : answer.status ≡ 0) where
       abbrev work : Work MemoryBay
       work = work_of (Unit {0}) (disks_of old.bay) (disks_of exit)
@@ -127,7 +105,7 @@ module _ (group : List ℕ) (kept : ℕ) (disk : Disk) where
       abbrev found_by : {timestamp : ℕ} {request : Request} {done : Bool} (taken : TakesGroup work (Some group) timestamp request done) → AreOut (disks_of old.bay) taken.left
           → (found : GroupValue) → group_of taken.newest (Some group) ≡ Ok found → FindsOn group old taken.left taken.newest
       found_by taken out found is_found =
-          finds group old stands.data_history exit (member (before_told old.bay exit well told)) well told taken.left taken.every_slot taken.failed (unread taken.left taken.every_slot out) taken.newest found is_found
+          finds group old stands.data_history exit (member group kept disk old stands (before_told old.bay exit well told)) well told taken.left taken.every_slot taken.failed (unread group kept disk old stands taken.left taken.every_slot out) taken.newest found is_found
 
       -- ---- changes of the group
 

@@ -33,12 +33,13 @@ use Rattle.ddf_stage_data.proofs.Stops.{open_before}
 use Rattle.ddf_stage_promise.specs.Cells.{HasVolumes, cells_by, cells_in, cells_of}
 use Rattle.ddf_stage_promise.specs.Closing.{AreToClose, LiePastFloors}
 use Rattle.ddf_stage_promise.specs.Footing.{Footing, desk_at}
-use Rattle.ddf_stage_promise.specs.Staged.{KeepsStaged, ShowsOne, arrays_on, desks_on, laid_over, losing, seats_on}
+use Rattle.ddf_stage_promise.specs.Staged.{KeepsStaged, ShowsOne, arrays_on, desks_on, losing, seats_on}
 use Rattle.ddf_stage_promise.proofs.Cells.{are_cells, found_cell}
 use Rattle.ddf_stage_promise.proofs.Desks.{all_none, desk_before, desk_of, same_desk, to_desk}
 use Rattle.ddf_stage_promise.proofs.Fewer.{remain_fewer, seats_fewer, view_fewer}
 use Rattle.ddf_stage_promise.proofs.Laying.{laid_between, laid_none, laid_some, view_remains}
 use Rattle.ddf_stage_promise.proofs.Losing.{through_none, through_some}
+use Rattle.ddf_stage_promise.proofs.OnlyOne.{keeps_each, shows_each}
 use Rattle.ddf_stage_promise.proofs.Steps.{IsLow, lies_low}
 use Rattle.ddf_data_array.proofs.Same.{kept_same}
 use Rattle.ddf_data_group.specs.Over.{absent_in}
@@ -268,19 +269,8 @@ module _ (group : List ℕ) (footing : Footing) (small : (slot : ℕ) → footin
 
   module _ (only : (n : ℕ) (c : Configuration) → IsSince past.changes n c → (n ≡ number) × (c ≡ config)) where
     pub closing_keeps : KeepsStaged group footing past image promises
-    closing_keeps lost stay n c is =
-        let same = only n c is in
-        subst (λ (x : ℕ). KeepsArrays c (seats_on group footing (losing group footing past lost) c) (laid_over group footing (losing group footing past lost) x c image) promises) (sym same.0)
-        (subst (λ (x : Configuration). KeepsArrays x (seats_on group footing (losing group footing past lost) x) (laid_over group footing (losing group footing past lost) number x image) promises) (sym same.1)
-        (closing_by lost stay))
+    closing_keeps = keeps_each group footing past number config only image promises closing_by
 
     pub closing_shows : ShowsOne group footing past image
-    closing_shows n c is =
-        let same = only n c is in
-        subst
-        (λ (x : ℕ). (j k : ℕ) (desk other : Desk) (shown found : Staged) → slice_get (desks_on group footing past c) j ≡ Some desk → slice_get (desks_on group footing past c) k ≡ Some other
-        → on_desk (arrays_on group footing past x c) image desk ≡ Some shown → on_desk (arrays_on group footing past x c) image other ≡ Some found → shown ≡ found) (sym same.0)
-        (subst
-        (λ (x : Configuration). (j k : ℕ) (desk other : Desk) (shown found : Staged) → slice_get (desks_on group footing past x) j ≡ Some desk → slice_get (desks_on group footing past x) k ≡ Some other
-        → on_desk (arrays_on group footing past number x) image desk ≡ Some shown → on_desk (arrays_on group footing past number x) image other ≡ Some found → shown ≡ found) (sym same.1)
-        (λ j k desk other shown found at at' opens opens'. shows_it j desk shown at opens ∙ sym (shows_it k other found at' opens')))
+    closing_shows = shows_each group footing past number config only image
+        (λ j k desk other shown found at at' opens opens'. shows_it j desk shown at opens ∙ sym (shows_it k other found at' opens'))

@@ -1,9 +1,8 @@
 -- The data of a group are kept where an array is deleted while gates stand open.
 use Rattle.std.proofs.Common.{◌≡◌, ◌∙◌, ◌⊎◌, inl, inr, ⊎_elim, ℕ, suc, ◌<◌, ◌≤◌, ◌^◌, Bool, true, false, not, List, [], ◌∷◌, ◌++◌, map, Option, Some, None, Result, Ok, Err, refl, sym, ap, subst, arith, slice_get, nat_eq, ◌&&◌, ◌||◌}
-use Rattle.std.proofs.Math.Path.{fun_ext}
-use Rattle.std.specs.Prelude.{filter_map, find, nat_le, option_map, if◌then◌else◌}
+use Rattle.std.specs.Prelude.{find, nat_le, option_map, if◌then◌else◌}
 use Rattle.std.specs.Cmp.Lexicographic.{pointwise}
-use Rattle.std.specs.List.{cons_option, range_with_len}
+use Rattle.std.specs.List.{cons_option}
 use Rattle.std.specs.Map.{lookup}
 use Rattle.std.proofs.lemmas.Bool.{leb-true, le-leb}
 use Rattle.std.proofs.lemmas.Option.{slice_get_within}
@@ -38,7 +37,6 @@ use Rattle.ddf_history.specs.Groups.{Disk, groups, has_current}
 use Rattle.ddf_history.specs.Issued.{Past, IsSince, issue}
 use Rattle.ddf_history.proofs.Following.{changes_follow}
 use Rattle.ddf_history.proofs.Lists.{get_more}
-use Rattle.ddf_data_history.specs.Promised.{is_seat, seat_if}
 use Rattle.ddf_data_history.proofs.Steps.{seats_are}
 use Rattle.ddf_data_history.proofs.Viewed.{are_members}
 use Rattle.ddf_stage.specs.declared.desk.Desk.{Desk}
@@ -59,6 +57,7 @@ use Rattle.ddf_stage_promise.proofs.Cells.{are_cells, found_cell}
 use Rattle.ddf_stage_promise.proofs.Desks.{all_none, desk_before, desk_of, to_desk}
 use Rattle.ddf_stage_promise.proofs.Laying.{laid_none}
 use Rattle.ddf_stage_promise.proofs.Losing.{through_none, through_some}
+use Rattle.ddf_stage_promise.proofs.MoreLost.{more as more_lost, more_stay, seats_same}
 use Rattle.ddf_stage_promise.proofs.LostViews.{remains_over}
 use Rattle.ddf_stage_promise.proofs.Remains.{DoRemain, Remains, parts_stay}
 
@@ -269,28 +268,14 @@ module _ (group : List ℕ) (footing : Footing) (small : (slot : ℕ) → footin
       (λ low. let own = leb-true past.changes.own_from number low in le-leb past.changes.own_from n (omega (arith, own, later))) counts
 
   module _ (lost : ℕ → Bool) (stay : (slot : ℕ) → past.lost slot ≡ true → lost slot ≡ true) where
-    more : ℕ → Bool
-    more slot = lost slot || not (has_current (changed_at last (Delete gone) sequence) (past.disk slot))
+    abbrev more : ℕ → Bool
+    more = more_lost group past (changed_at last (Delete gone) sequence) lost
 
-    or_first : (a b : Bool) → a ≡ true → (a || b) ≡ true
-    or_first true b e = refl
-    or_first false b e = absurd (cc)
+    more_stays : (slot : ℕ) → past.lost slot ≡ true → more slot ≡ true
+    more_stays = more_stay group past (changed_at last (Delete gone) sequence) lost stay
 
-    more_stay : (slot : ℕ) → past.lost slot ≡ true → more slot ≡ true
-    unfolding more
-    more_stay slot lies = or_first (lost slot) (not (has_current (changed_at last (Delete gone) sequence) (past.disk slot))) (stay slot lies)
-
-    seat_is_by : (a c d : Bool) → (c ≡ true → d ≡ true) → (not a && c) ≡ (not (a || not c) && d)
-    seat_is_by true c d up = refl
-    seat_is_by false true d up = sym (up refl)
-    seat_is_by false false d up = refl
-
-    seat_is : (slot : ℕ) → is_seat group (losing group footing past lost) (changed_at last (Delete gone) sequence) slot ≡ is_seat group (losing group footing past more) last slot
-    unfolding more
-    seat_is slot = seat_is_by (lost slot) (has_current (changed_at last (Delete gone) sequence) (past.disk slot)) (has_current last (past.disk slot)) (no_more (past.disk slot))
-
-    seats_same : seats_on group footing (losing group footing past lost) (changed_at last (Delete gone) sequence) ≡ seats_on group footing (losing group footing past more) last
-    seats_same = ap (λ (here : ℕ → Bool). filter_map (λ slot. seat_if (here slot) footing.floor (past.disk slot) slot) (range_with_len 0 past.slots)) (fun_ext seat_is)
+    same_seats : seats_on group footing (losing group footing past lost) (changed_at last (Delete gone) sequence) ≡ seats_on group footing (losing group footing past more) last
+    same_seats = seats_same group past (changed_at last (Delete gone) sequence) lost footing last no_more
 
     abbrev seats : List Seat
     seats = seats_on group footing (losing group footing past more) last
@@ -303,7 +288,7 @@ module _ (group : List ℕ) (footing : Footing) (small : (slot : ℕ) → footin
 
     after_are : AreCurrentSeats (members_after last (Delete gone)) (seats_on group footing (losing group footing past more) last)
     after_are =
-        subst (AreCurrentSeats (members_after last (Delete gone))) seats_same (seats_are group footing.floor small (losing group footing past lost) (changed_at last (Delete gone) sequence))
+        subst (AreCurrentSeats (members_after last (Delete gone))) same_seats (seats_are group footing.floor small (losing group footing past lost) (changed_at last (Delete gone) sequence))
 
     abbrev Holds : Image → Type 0
     Holds x = KeepsArrays (changed_at last (Delete gone) sequence) (seats_on group footing (losing group footing past more) last) x promises
@@ -313,7 +298,7 @@ module _ (group : List ℕ) (footing : Footing) (small : (slot : ℕ) → footin
     before =
         changed_keeps last (seats_on group footing (losing group footing past more) last) (seats_on group footing (losing group footing past more) last) (through desks (guids_of last) (cells_in last seats) image) promises
         are (λ reference. inr (refl, refl))
-        (subst (λ (b : Bool). KeepsArrays last (seats_on group footing (losing group footing past more) last) (through desks (arrays_by b last) (cells_in last seats) image) promises) counts (kept more more_stay number last since))
+        (subst (λ (b : Bool). KeepsArrays last (seats_on group footing (losing group footing past more) last) (through desks (arrays_by b last) (cells_in last seats) image) promises) counts (kept more more_stays number last since))
         (Delete gone) sequence after_are tt
 
     floors : (reference floor : ℕ) → floor_of (seats_on group footing (losing group footing past more) last) reference ≡ Some floor → floor < 2 ^ 64
@@ -339,7 +324,7 @@ module _ (group : List ℕ) (footing : Footing) (small : (slot : ℕ) → footin
             )
 
     was_desk : (k : ℕ) (desk : Desk) → slice_get desks k ≡ Some desk → (j : ℕ) × (slice_get (desks_on group footing past last) j ≡ Some desk)
-    was_desk k desk at = desk_before group footing past last more more_stay k desk at
+    was_desk k desk at = desk_before group footing past last more more_stays k desk at
 
     shows_it : (staged : Staged) → first_open (guids_of last) image desks ≡ Some staged → (k : ℕ) (desk : Desk) (shown : Staged) → slice_get desks k ≡ Some desk → on_desk (guids_of last) image desk ≡ Some shown → shown ≡ staged
     shows_it staged e k desk shown at opens =
@@ -394,7 +379,7 @@ module _ (group : List ℕ) (footing : Footing) (small : (slot : ℕ) → footin
     next_keeps n later =
         subst
         (λ (over : List Seat). KeepsArrays (changed_at last (Delete gone) sequence) over
-        (through (desks_of footing.gate over) (arrays_by (does_count footing past.changes.own_from n) (changed_at last (Delete gone) sequence)) (cells_in (changed_at last (Delete gone) sequence) over) image) promises) (sym seats_same)
+        (through (desks_of footing.gate over) (arrays_by (does_count footing past.changes.own_from n) (changed_at last (Delete gone) sequence)) (cells_in (changed_at last (Delete gone) sequence) over) image) promises) (sym same_seats)
         (subst (λ (b : Bool). Holds (through desks (arrays_by b (changed_at last (Delete gone) sequence)) (cells_in (changed_at last (Delete gone) sequence) seats) image)) (sym (counts_up n later))
         (by_first (first_open (guids_of last) image desks) refl))
 

@@ -6,6 +6,8 @@ pub mod Desks
 pub mod LostViews
 pub mod Fewer
 pub mod Losing
+pub mod OnlyOne
+pub mod MoreLost
 pub mod Steps
 pub mod Closing
 pub mod Joining

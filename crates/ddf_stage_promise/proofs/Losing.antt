@@ -1,8 +1,6 @@
 -- The data of a group are kept where members are counted as lost while gates stand open.
 use Rattle.std.proofs.Common.{◌≡◌, ◌∙◌, ◌⊎◌, inr, ⊎_elim, ℕ, ◌<◌, ◌≤◌, ◌^◌, Bool, true, false, not, List, [], Option, Some, None, Result, refl, sym, ap, subst, arith, slice_get, ◌&&◌, ◌||◌}
-use Rattle.std.proofs.Math.Path.{fun_ext}
-use Rattle.std.specs.Prelude.{filter_map, nat_le, if◌then◌else◌}
-use Rattle.std.specs.List.{range_with_len}
+use Rattle.std.specs.Prelude.{nat_le, if◌then◌else◌}
 use Rattle.std.proofs.lemmas.Bool.{leb-true, le-leb}
 use Rattle.std.proofs.lemmas.Option.{slice_get_within}
 use Rattle.ddf_bay.specs.Sectors.{Image}
@@ -22,7 +20,6 @@ use Rattle.ddf_history.specs.Groups.{Disk, groups, has_current}
 use Rattle.ddf_history.specs.Issued.{Past, IsSince, issue}
 use Rattle.ddf_history.proofs.Following.{changes_follow}
 use Rattle.ddf_history.proofs.Lists.{get_more}
-use Rattle.ddf_data_history.specs.Promised.{is_seat, seat_if}
 use Rattle.ddf_data_history.proofs.Steps.{seats_are}
 use Rattle.ddf_data_history.proofs.Viewed.{are_members}
 use Rattle.ddf_stage.specs.declared.desk.Desk.{Desk}
@@ -38,6 +35,7 @@ use Rattle.ddf_stage_promise.specs.Staged.{KeepsStaged, ShowsOne, arrays_by, des
 use Rattle.ddf_stage_promise.proofs.Desks.{all_none, desk_before, desk_of, to_desk}
 use Rattle.ddf_stage_promise.proofs.Laying.{laid_between, view_remains}
 use Rattle.ddf_stage_promise.proofs.LostViews.{arrays_remain, guids_same, views_agree}
+use Rattle.ddf_stage_promise.proofs.MoreLost.{more as more_lost, more_stay, seats_same}
 
 -- ---- gates that count for nothing
 
@@ -79,28 +77,14 @@ module _ (group : List ℕ) (footing : Footing) (small : (slot : ℕ) → footin
 
   module _ (lost : ℕ → Bool) (stay : (slot : ℕ) → past.lost slot ≡ true → lost slot ≡ true) where
     -- the slots of members that are counted as lost are lost too
-    more : ℕ → Bool
-    more slot = lost slot || not (has_current (changed_at last (Lose references) sequence) (past.disk slot))
+    abbrev more : ℕ → Bool
+    more = more_lost group past (changed_at last (Lose references) sequence) lost
 
-    or_first : (a b : Bool) → a ≡ true → (a || b) ≡ true
-    or_first true b e = refl
-    or_first false b e = absurd (cc)
+    more_stays : (slot : ℕ) → past.lost slot ≡ true → more slot ≡ true
+    more_stays = more_stay group past (changed_at last (Lose references) sequence) lost stay
 
-    more_stay : (slot : ℕ) → past.lost slot ≡ true → more slot ≡ true
-    unfolding more
-    more_stay slot gone = or_first (lost slot) (not (has_current (changed_at last (Lose references) sequence) (past.disk slot))) (stay slot gone)
-
-    seat_is_by : (a c d : Bool) → (c ≡ true → d ≡ true) → (not a && c) ≡ (not (a || not c) && d)
-    seat_is_by true c d up = refl
-    seat_is_by false true d up = sym (up refl)
-    seat_is_by false false d up = refl
-
-    seat_is : (slot : ℕ) → is_seat group (losing group footing past lost) (changed_at last (Lose references) sequence) slot ≡ is_seat group (losing group footing past more) last slot
-    unfolding more
-    seat_is slot = seat_is_by (lost slot) (has_current (changed_at last (Lose references) sequence) (past.disk slot)) (has_current last (past.disk slot)) (no_more (past.disk slot))
-
-    seats_same : seats_on group footing (losing group footing past lost) (changed_at last (Lose references) sequence) ≡ seats_on group footing (losing group footing past more) last
-    seats_same = ap (λ (here : ℕ → Bool). filter_map (λ slot. seat_if (here slot) footing.floor (past.disk slot) slot) (range_with_len 0 past.slots)) (fun_ext seat_is)
+    same_seats : seats_on group footing (losing group footing past lost) (changed_at last (Lose references) sequence) ≡ seats_on group footing (losing group footing past more) last
+    same_seats = seats_same group past (changed_at last (Lose references) sequence) lost footing last no_more
 
     abbrev seats : List Seat
     seats = seats_on group footing (losing group footing past more) last
@@ -110,13 +94,13 @@ module _ (group : List ℕ) (footing : Footing) (small : (slot : ℕ) → footin
 
     after_are : AreCurrentSeats (members_after last (Lose references)) (seats_on group footing (losing group footing past more) last)
     after_are =
-        subst (AreCurrentSeats (members_after last (Lose references))) seats_same (seats_are group footing.floor small (losing group footing past lost) (changed_at last (Lose references) sequence))
+        subst (AreCurrentSeats (members_after last (Lose references))) same_seats (seats_are group footing.floor small (losing group footing past lost) (changed_at last (Lose references) sequence))
 
     -- what was laid over before, under the later configuration
     before : KeepsArrays (changed_at last (Lose references) sequence) (seats_on group footing (losing group footing past more) last) (laid_over group footing (losing group footing past more) number last image) promises
     before =
         changed_keeps last (seats_on group footing (losing group footing past more) last) (seats_on group footing (losing group footing past more) last) (laid_over group footing (losing group footing past more) number last image) promises
-        are (λ reference. inr (refl, refl)) (kept more more_stay number last since) (Lose references) sequence after_are tt
+        are (λ reference. inr (refl, refl)) (kept more more_stays number last since) (Lose references) sequence after_are tt
 
     floors : (reference floor : ℕ) → floor_of (seats_on group footing (losing group footing past more) last) reference ≡ Some floor → floor < 2 ^ 64
     floors = are.small
@@ -186,7 +170,7 @@ module _ (group : List ℕ) (footing : Footing) (small : (slot : ℕ) → footin
     by_shut : (n : ℕ) → ((k : ℕ) (desk : Desk) → slice_get (desks_on group footing past last) k ≡ Some desk → on_desk (guids_of last) image desk ≡ None) → Holds n
     by_shut n shut =
         let all : (k : ℕ) (desk : Desk) → slice_get desks k ≡ Some desk → on_desk (guids_of last) image desk ≡ None =
-        λ k desk at. let old = desk_before group footing past last more more_stay k desk at in shut old.0 desk old.1 in
+        λ k desk at. let old = desk_before group footing past last more more_stays k desk at in shut old.0 desk old.1 in
         let plain = through_none desks (named number last) (cells_in last (seats_on group footing (losing group footing past more) last)) image
         (all_none (named number last) image desks (λ k desk at. shut_for image desk (does_count footing past.changes.own_from number) last (guids_of last) refl (all k desk at))) in
         let plain' = through_none desks (named n (changed_at last (Lose references) sequence)) (cells_in (changed_at last (Lose references) sequence) (seats_on group footing (losing group footing past more) last)) image
@@ -203,7 +187,7 @@ module _ (group : List ℕ) (footing : Footing) (small : (slot : ℕ) → footin
     next_keeps n later =
         subst
         (λ (over : List Seat). KeepsArrays (changed_at last (Lose references) sequence) over
-        (through (desks_of footing.gate over) (named n (changed_at last (Lose references) sequence)) (cells_in (changed_at last (Lose references) sequence) over) image) promises) (sym seats_same) (holds n later)
+        (through (desks_of footing.gate over) (named n (changed_at last (Lose references) sequence)) (cells_in (changed_at last (Lose references) sequence) over) image) promises) (sym same_seats) (holds n later)
 
   pub lost_keeps : KeepsStaged group footing (issue past (changed_at last (Lose references) sequence)) image promises
   lost_keeps lost stay n config issued =

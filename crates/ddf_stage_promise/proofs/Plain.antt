@@ -27,11 +27,12 @@ use Rattle.ddf_stage.proofs.Gates.{opened_closed}
 use Rattle.ddf_stage_promise.specs.Cells.{cells_by, cells_in}
 use Rattle.ddf_stage_promise.specs.Closing.{LiePastFloors}
 use Rattle.ddf_stage_promise.specs.Footing.{Footing}
-use Rattle.ddf_stage_promise.specs.Staged.{KeepsStaged, ShowsOne, arrays_by, arrays_on, desks_on, does_count, laid_over, losing, seats_on}
+use Rattle.ddf_stage_promise.specs.Staged.{KeepsStaged, ShowsOne, arrays_by, arrays_on, desks_on, does_count, losing, seats_on}
 use Rattle.ddf_stage_promise.proofs.Desks.{all_none, desk_before, desk_of, some_first}
 use Rattle.ddf_stage_promise.proofs.Fewer.{seats_fewer}
 use Rattle.ddf_stage_promise.proofs.Laying.{laid_none, laid_some}
 use Rattle.ddf_stage_promise.proofs.Losing.{names_none, through_none, through_some}
+use Rattle.ddf_stage_promise.proofs.OnlyOne.{keeps_each, shows_each}
 use Rattle.ddf_stage_promise.proofs.Steps.{same_low}
 
 -- ---- gates that count for nothing
@@ -177,19 +178,8 @@ module _ (group : List ℕ) (footing : Footing) (small : (slot : ℕ) → footin
     closed_by = by_first (first_open arrays image here) refl
 
   pub closed_keeps : KeepsStaged group footing past image promises
-  closed_keeps lost stay n c is =
-      let same = only n c is in
-      subst (λ (x : ℕ). KeepsArrays c (seats_on group footing (losing group footing past lost) c) (laid_over group footing (losing group footing past lost) x c image) promises) (sym same.0)
-      (subst (λ (x : Configuration). KeepsArrays x (seats_on group footing (losing group footing past lost) x) (laid_over group footing (losing group footing past lost) number x image) promises) (sym same.1)
-      (closed_by lost stay))
+  closed_keeps = keeps_each group footing past number config only image promises closed_by
 
   pub closed_shows : ShowsOne group footing past image
-  closed_shows n c is =
-      let same = only n c is in
-      subst
-      (λ (x : ℕ). (j k : ℕ) (desk other : Desk) (shown found : Staged) → slice_get (desks_on group footing past c) j ≡ Some desk → slice_get (desks_on group footing past c) k ≡ Some other
-      → on_desk (arrays_on group footing past x c) image desk ≡ Some shown → on_desk (arrays_on group footing past x c) image other ≡ Some found → shown ≡ found) (sym same.0)
-      (subst
-      (λ (x : Configuration). (j k : ℕ) (desk other : Desk) (shown found : Staged) → slice_get (desks_on group footing past x) j ≡ Some desk → slice_get (desks_on group footing past x) k ≡ Some other
-      → on_desk (arrays_on group footing past number x) image desk ≡ Some shown → on_desk (arrays_on group footing past number x) image other ≡ Some found → shown ≡ found) (sym same.1)
-      (λ j k desk other shown found at at' opens opens'. one number config since j k desk other shown found at at' (shows_before j desk shown at opens) (shows_before k other found at' opens')))
+  closed_shows = shows_each group footing past number config only image
+      (λ j k desk other shown found at at' opens opens'. one number config since j k desk other shown found at at' (shows_before j desk shown at opens) (shows_before k other found at' opens'))

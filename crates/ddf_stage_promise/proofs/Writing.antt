@@ -51,7 +51,7 @@ use Rattle.ddf_stage_data.proofs.Moments.{every_moment, open_at, shows}
 use Rattle.ddf_stage_promise.specs.Cells.{HasVolumes, cells_by, cells_in, cells_of}
 use Rattle.ddf_stage_promise.specs.Closing.{LiePastFloors}
 use Rattle.ddf_stage_promise.specs.Footing.{Footing, desk_at}
-use Rattle.ddf_stage_promise.specs.Staged.{KeepsStaged, NoneOpen, ShowsOne, arrays_on, desks_on, laid_over, losing, seats_on}
+use Rattle.ddf_stage_promise.specs.Staged.{KeepsStaged, NoneOpen, ShowsOne, arrays_on, desks_on, losing, seats_on}
 use Rattle.ddf_stage_promise.specs.Writing.{MayBeStaged}
 use Rattle.ddf_stage_promise.proofs.Between.{aside}
 use Rattle.ddf_stage_promise.proofs.Cells.{are_cells, found_cell, found_same}
@@ -61,6 +61,7 @@ use Rattle.ddf_stage_promise.proofs.Fewer.{less_same, remain_fewer, seats_fewer,
 use Rattle.ddf_stage_promise.proofs.Joining.{have_sectors, laid_are}
 use Rattle.ddf_stage_promise.proofs.Laying.{laid_none, laid_some, view_remains}
 use Rattle.ddf_stage_promise.proofs.Losing.{through_none, through_some}
+use Rattle.ddf_stage_promise.proofs.OnlyOne.{keeps_each, shows_each}
 use Rattle.ddf_stage_promise.proofs.Remains.{Remains, cell_up, lay, place_up}
 use Rattle.ddf_stage_promise.proofs.Steps.{lies_low, plain_keeps, staged_keeps}
 
@@ -407,22 +408,8 @@ module _ (group : List ℕ) (footing : Footing) (small : (slot : ℕ) → footin
 
   module _ (only : (n : ℕ) (c : Configuration) → IsSince past.changes n c → (n ≡ number) × (c ≡ config)) where
     pub writing_keeps : KeepsStaged group footing past image (with_promise promises staged.gate.array (Some (while_written allowed staged.gate.block (value_of staged ∷ []))))
-    writing_keeps lost stay n c is =
-        let same = only n c is in
-        subst
-        (λ (x : ℕ). KeepsArrays c (seats_on group footing (losing group footing past lost) c) (laid_over group footing (losing group footing past lost) x c image)
-        (with_promise promises staged.gate.array (Some (while_written allowed staged.gate.block (value_of staged ∷ []))))) (sym same.0)
-        (subst
-        (λ (x : Configuration). KeepsArrays x (seats_on group footing (losing group footing past lost) x) (laid_over group footing (losing group footing past lost) number x image)
-        (with_promise promises staged.gate.array (Some (while_written allowed staged.gate.block (value_of staged ∷ []))))) (sym same.1) (writing_by lost stay))
+    writing_keeps = keeps_each group footing past number config only image (with_promise promises staged.gate.array (Some (while_written allowed staged.gate.block (value_of staged ∷ [])))) writing_by
 
     pub writing_shows : ShowsOne group footing past image
-    writing_shows n c is =
-        let same = only n c is in
-        subst
-        (λ (x : ℕ). (j k : ℕ) (desk other : Desk) (shown found : Staged) → slice_get (desks_on group footing past c) j ≡ Some desk → slice_get (desks_on group footing past c) k ≡ Some other
-        → on_desk (arrays_on group footing past x c) image desk ≡ Some shown → on_desk (arrays_on group footing past x c) image other ≡ Some found → shown ≡ found) (sym same.0)
-        (subst
-        (λ (x : Configuration). (j k : ℕ) (desk other : Desk) (shown found : Staged) → slice_get (desks_on group footing past x) j ≡ Some desk → slice_get (desks_on group footing past x) k ≡ Some other
-        → on_desk (arrays_on group footing past number x) image desk ≡ Some shown → on_desk (arrays_on group footing past number x) image other ≡ Some found → shown ≡ found) (sym same.1)
-        (λ j k desk other shown found at at' opens opens'. shows_it j desk shown at opens ∙ sym (shows_it k other found at' opens')))
+    writing_shows = shows_each group footing past number config only image
+        (λ j k desk other shown found at at' opens opens'. shows_it j desk shown at opens ∙ sym (shows_it k other found at' opens'))
