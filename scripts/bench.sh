@@ -60,9 +60,11 @@ sixteen() {
 # The program that times the exclusive-or, in a repository of its own with the crates that it stands on.
 build_xor() {
     mkdir -p "$1/crates/xor_speed/src"
-    for crate in ddf_bytes ddf_parity; do
+    for crate in ddf_lemmas ddf_bytes ddf_parity; do
         mkdir "$1/crates/$crate"
-        cp -r "$top/crates/$crate/src" "$top/crates/$crate/specs" "$top/crates/$crate/proofs" "$1/crates/$crate"
+        for part in src specs proofs; do
+            [ ! -d "$top/crates/$crate/$part" ] || cp -r "$top/crates/$crate/$part" "$1/crates/$crate"
+        done
         grep "^$crate:" "$top/crates.txt" >>"$1/crates.txt"
     done
     echo "xor_speed: ddf_bytes ddf_parity anyhow" >>"$1/crates.txt"
