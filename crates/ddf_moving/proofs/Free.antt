@@ -1,15 +1,15 @@
 -- Where nothing stands in the way, a moved copy lies apart from all that stays.
-use Rattle.std.proofs.Common.{◌≡◌, ℕ, ◌+◌, ◌-◌, ◌*◌, ◌<◌, ◌≤◌, true, false, not, ◌&&◌, ◌||◌, eqb, List, length, Some, None, inl, inr, refl, sym, ap, subst, arith}
+use Rattle.std.proofs.Common.{◌≡◌, ◌⊎◌, ℕ, ◌+◌, ◌-◌, ◌*◌, ◌<◌, ◌≤◌, true, false, ◌||◌, eqb, List, length, Some, None, inl, inr, ⊎_elim, refl, sym, ap, subst, arith}
 use Rattle.std.specs.Prelude.{slice_get, is_some}
 use Rattle.std.specs.List.{list_any}
 use Rattle.std.proofs.Math.Nat.{div-mul-le_self}
-use Rattle.std.proofs.lemmas.Bool.{ltb-false, leb-false, ne_eqb, or_parts}
+use Rattle.std.proofs.lemmas.Bool.{cases_lt, ltb-false, leb-false, ne_eqb, or_parts}
 use Rattle.ddf_lemmas.proofs.Lists.{none_any}
 use Rattle.ddf_bytes.proofs.Nones.{none_first, none_when}
 use Rattle.ddf_config.specs.declared.extent.Extent.{Extent}
 use Rattle.ddf_header.specs.declared.geometry.Geometry.{Geometry}
 use Rattle.ddf_header.specs.declared.reading.Header.{Header}
-use Rattle.ddf_header.specs.Geometry.{IsSound, is_absent, section_of}
+use Rattle.ddf_header.specs.Geometry.{IsSound, section_of}
 use Rattle.ddf_header.proofs.Sound.{sound}
 use Rattle.ddf_copy.specs.declared.copy.DiskCopy.{DiskCopy}
 use Rattle.ddf_copy.specs.declared.which.Which.{Which}
@@ -26,18 +26,14 @@ use Rattle.ddf_import.specs.declared.places.Moved.{Moved}
 use Rattle.ddf_update.specs.Update.{IsOfCopy}
 use Rattle.ddf_update.proofs.NewRoom.{has_room}
 use Rattle.ddf_moving.specs.Copies.{moved_copy, relaid}
-use Rattle.ddf_moving.specs.Moves.{MayBeMoved}
-use Rattle.ddf_moving.specs.Obstacles.{end_meets_copies, end_of_workspace, front_of, is_short, meets_extent, obstacle, obstacles_of, reaches_anchor}
+use Rattle.ddf_moving.specs.Moves.{IsInSection, IsUntaken, MayBeMoved}
+use Rattle.ddf_moving.specs.Obstacles.{end_meets_copies, end_of_workspace, front_meets_others, front_of, is_short, meets_extent, obstacle, obstacles_of, reaches_anchor}
 use Rattle.ddf_moving.specs.Places.{copy_length, moved_geometry}
 use Rattle.ddf_moving.proofs.Can.{IsMovedTo, IsPlaced, has_moved, moved_to, relaid_can, sound_like}
 use Rattle.ddf_moving.proofs.Laid.{copy_within, sections_near}
 use Rattle.ddf_moving.proofs.Lengths.{some_length}
 
 -- ---- the sectors of a copy are those of its header and its sections
-
--- a sector of a section behind a header
-abbrev IsInSection : (lba : ℕ) → Geometry → (k l : ℕ) → Type 0
-IsInSection lba geometry k l = (lba + (section_of geometry k).offset ≤ l) × (l < lba + (section_of geometry k).offset + (section_of geometry k).length)
 
 in_section : (geometry : Geometry) → IsSound geometry → ((k : ℕ) → k < 8 → slice_get geometry.sections k ≡ Some (section_of geometry k)) → (lba l : ℕ)
     → IsInParts lba (parts_of geometry) l → (k : ℕ) × (k < 8) × IsInSection lba geometry k l
@@ -55,6 +51,23 @@ in_section geometry is found lba l (inr (inr (inr (inr (inl here))))) =
 in_section geometry is found lba l (inr (inr (inr (inr (inr (inl here)))))) = (5, omega arith, here)
 in_section geometry is found lba l (inr (inr (inr (inr (inr (inr none)))))) = absurd none
 
+-- a run of which no sector is of a section behind a header
+none_of_section : (lba from many l : ℕ) (geometry : Geometry) (k : ℕ) → has_sector_of lba from many (section_of geometry k) ≡ false → from ≤ l → l < from + many
+    → IsInSection lba geometry k l → ⊥
+none_of_section lba from many l geometry k none above below is =
+    let section = section_of geometry k in
+    let present : eqb section.length 0 ≡ false = ne_eqb section.length 0 (λ (e : section.length ≡ 0). absurd (omega (arith, e, is.0, is.1))) in
+    unshared from many (lba + section.offset) section.length l (rw present at none) above below is.0 is.1
+
+-- a run that meets no header and no section has no sector of a section
+none_in : (copy : DiskCopy) → CanBeCopy copy → (lba from many l : ℕ) → meets_copy lba copy.header.geometry.sections from many ≡ false → from ≤ l → l < from + many
+    → (k : ℕ) → k < 8 → IsInSection lba copy.header.geometry k l → ⊥
+none_in copy can lba from many l none above below k lt is =
+    let geometry = copy.header.geometry in
+    let parts = or_parts (share from many lba 1) (list_any (has_sector_of lba from many) geometry.sections) none in
+    let found = section_found geometry k (eight_sections copy can) lt in
+    none_of_section lba from many l geometry k (none_any (has_sector_of lba from many) geometry.sections k (section_of geometry k) parts.1 found) above below is
+
 -- a run that meets no header and no section has no sector of the copy
 none_met : (copy : DiskCopy) → CanBeCopy copy → (lba from many l : ℕ) → meets_copy lba copy.header.geometry.sections from many ≡ false → from ≤ l → l < from + many
     → IsOfCopy lba copy.header.geometry l → ⊥
@@ -65,11 +78,7 @@ none_met copy can lba from many l none above below (inr part) =
     let geometry = copy.header.geometry in
     let found : (k : ℕ) → k < 8 → slice_get geometry.sections k ≡ Some (section_of geometry k) = λ k lt. section_found geometry k (eight_sections copy can) lt in
     let is = in_section geometry (sound geometry can.header_can.is_header.has_geometry) found lba l part in
-    let section = section_of geometry is.0 in
-    let parts = or_parts (share from many lba 1) (list_any (has_sector_of lba from many) geometry.sections) none in
-    let here : (not (is_absent section) && share from many (lba + section.offset) section.length) ≡ false = none_any (has_sector_of lba from many) geometry.sections is.0 section parts.1 (found is.0 is.1) in
-    let present : eqb section.length 0 ≡ false = ne_eqb section.length 0 (λ (e : section.length ≡ 0). absurd (omega (arith, e, is.2.0, is.2.1))) in
-    unshared from many (lba + section.offset) section.length l (rw present at here) above below is.2.0 is.2.1
+    none_in copy can lba from many l none above below is.0 is.1 is.2
 
 none_of_extent : (from many l : ℕ) (extent : Extent) → meets_extent (record { from = from; many = many }) extent ≡ false → from ≤ l → l < from + many
     → extent.start ≤ l → l < extent.start + extent.blocks → ⊥
@@ -85,6 +94,8 @@ record IsFree (size room : ℕ) (old : DiskCopy) (extents : List Extent) : Type 
   primary_free : meets_copy old.header.primary_lba old.header.geometry.sections (end_of_workspace old.header.geometry room).from (end_of_workspace old.header.geometry room).many ≡ false
   secondary_free : meets_copy old.header.secondary_lba old.header.geometry.sections (end_of_workspace old.header.geometry room).from (end_of_workspace old.header.geometry room).many ≡ false
   extents_free : list_any (meets_extent (end_of_workspace old.header.geometry room)) extents ≡ false
+  others_free : front_meets_others old (front_of old.header.geometry) ≡ false
+  front_free : list_any (meets_extent (front_of old.header.geometry)) extents ≡ false
 
 is_free : (old like : DiskCopy) (size room : ℕ) (extents : List Extent) → obstacle old like size room extents ≡ None → IsFree size room old extents
 unfolding obstacle
@@ -103,6 +114,8 @@ is_free old like size room extents none =
       primary_free = copies.0;
       secondary_free = copies.1;
       extents_free = extent.0;
+      others_free = none_when (front_meets_others old (front_of geometry)) _ all.1.1.0;
+      front_free = extent.1;
     }
 
 -- ---- the law
@@ -125,6 +138,44 @@ module _ (size room : ℕ) (anchor : Header) (old like : DiskCopy) (extents : Li
 
   pub made : is_some (moved_copy old like) ≡ true
   made = has_moved old like (omega (arith, free.long, may.has_room))
+
+  -- the sectors at the front of the workspace
+  abbrev Others : (lba k : ℕ) → Type 0
+  Others lba k = has_sector_of lba from 18 (section_of old.header.geometry k) ≡ false
+
+  others_of : (which : Which) → Others (place_of which old.header) 6 × Others (place_of which old.header) 7
+  others_of which =
+      let g = old.header.geometry in
+      let a = has_sector_of old.header.primary_lba from 18 (section_of g 6) in
+      let b = has_sector_of old.header.primary_lba from 18 (section_of g 7) in
+      let c = has_sector_of old.header.secondary_lba from 18 (section_of g 6) in
+      let d = has_sector_of old.header.secondary_lba from 18 (section_of g 7) in
+      let three = or_parts (a || b || c) d free.others_free in
+      let two = or_parts (a || b) c three.0 in
+      let one = or_parts a b two.0 in
+      both which one.0 one.1 two.1 three.1
+    where
+      both : (which : Which) → Others old.header.primary_lba 6 → Others old.header.primary_lba 7 → Others old.header.secondary_lba 6 → Others old.header.secondary_lba 7
+          → Others (place_of which old.header) 6 × Others (place_of which old.header) 7
+      both Primary a b c d = (a, b)
+      both Secondary a b c d = (c, d)
+
+  other_of_front : (which : Which) (section : ℕ) → 6 ≤ section → section < 8 → Others (place_of which old.header) section
+  other_of_front which section from_six below_eight = ⊎_elim
+      (λ (six : section ≡ 6). subst (λ (k : ℕ). Others (place_of which old.header) k) (sym six) (others_of which).0)
+      (λ (seven : section ≡ 7). subst (λ (k : ℕ). Others (place_of which old.header) k) (sym seven) (others_of which).1)
+      (six_or_seven section from_six below_eight)
+    where
+      six_or_seven : (n : ℕ) → 6 ≤ n → n < 8 → (n ≡ 6) ⊎ (n ≡ 7)
+      six_or_seven n low high = ⊎_elim (λ (lt : n < 7). inl (omega (arith, lt, low))) (λ (ge : 7 ≤ n). inr (omega (arith, ge, high))) (cases_lt n 7)
+
+  pub front : (l : ℕ) → from ≤ l → l < from + 18 → IsUntaken anchor old extents l
+  front l low high = record {
+    no_other = λ which section six eight is.
+        none_of_section (place_of which old.header) from 18 l old.header.geometry section (other_of_front which section six eight) low high
+        (subst (λ (lba : ℕ). IsInSection lba old.header.geometry section l) (sym (may.is_under.in_place which)) is);
+    no_extent = λ k extent at start ends. none_of_extent from 18 l extent (none_any (meets_extent (front_of old.header.geometry)) extents k extent free.front_free at) low high start ends;
+  }
 
   free_of : (which : Which) → meets_copy (place_of which old.header) old.header.geometry.sections (end_of_workspace old.header.geometry room).from (end_of_workspace old.header.geometry room).many ≡ false
   free_of Primary = free.primary_free
@@ -213,6 +264,13 @@ module _ (size room : ℕ) (anchor : Header) (old like : DiskCopy) (extents : Li
         let there = at_end which l of_new in
         let here : IsOfCopy (place_of other old.header) old.header.geometry l = subst (λ (lba : ℕ). IsOfCopy lba old.header.geometry l) (sym (may.is_under.in_place other)) of_old in
         none_met old can (place_of other old.header) (from + many - 2 * room) (2 * room) l (free_of other) there.0 (omega (arith, there.1, free.long)) here
+
+    pub no_section : (which other : Which) (l : ℕ) → IsOfCopy (place_of which new.header) new.header.geometry l → (section : ℕ) → section < 8
+        → IsInSection (place_of other anchor) old.header.geometry section l → ⊥
+    no_section which other l of_new section lt is =
+        let there = at_end which l of_new in
+        let here : IsInSection (place_of other old.header) old.header.geometry section l = subst (λ (lba : ℕ). IsInSection lba old.header.geometry section l) (sym (may.is_under.in_place other)) is in
+        none_in old can (place_of other old.header) (from + many - 2 * room) (2 * room) l (free_of other) there.0 (omega (arith, there.1, free.long)) section lt here
 
     pub no_extent : (which : Which) (l : ℕ) → IsOfCopy (place_of which new.header) new.header.geometry l → (k : ℕ) (extent : Extent) → slice_get extents k ≡ Some extent
         → extent.start ≤ l → l < extent.start + extent.blocks → ⊥

@@ -5,3 +5,4 @@ pub mod Slots
 pub mod Can
 pub mod Free
 pub mod Alike
+pub mod Kept

@@ -13,7 +13,7 @@ mod stretch;
 mod tables;
 
 pub use copies::moved_copy;
-pub use laws::a_moved_copy_lies_apart;
+pub use laws::{a_moved_copy_lies_apart, what_a_moved_copy_keeps};
 pub use length::copy_length;
 pub use looking::first_obstacle;
 pub use numbers::same_numbers;
