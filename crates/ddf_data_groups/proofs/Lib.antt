@@ -1,0 +1,12 @@
+pub mod Falling
+pub mod Seats
+pub mod SeatsShown
+pub mod Showing
+pub mod Aside
+pub mod Behind
+pub mod Going
+pub mod CutJoins
+pub mod Labelled
+pub mod JoinCopies
+pub mod ImportAside
+pub mod Trusted
