@@ -66,6 +66,16 @@ DESTDIR=$work/package "$work/unpacked/install" /usr >/dev/null
 "$work/unpacked/install" --remove "$prefix"
 [ -z "$(find "$prefix" ! -type d)" ] || fail "these stay: $(find "$prefix" ! -type d)"
 [ ! -d "$prefix/libexec/ddf" ] || fail "an empty folder stays"
+# The rule names its helper below each folder that it can name, and isn't put there with half a name.
+"$work/unpacked/install" "$work/a|b&c" >/dev/null
+grep -qF "\"$work/a|b&c/libexec/ddf/ddf-udev-id " "$work/a|b&c/lib/udev/rules.d/61-ddf-by-group.rules" || fail "the rule doesn't name its helper below a|b&c"
+"$work/unpacked/install" "$work/with blank" >/dev/null 2>"$work/told"
+grep -q "the rule of udev isn't installed" "$work/told" || fail "a rule that can't name its helper is installed"
+[ -x "$work/with blank/bin/ddf" ] || fail "a folder with a blank isn't taken"
+# What another version put there stays, and is told.
+: >"$work/with blank/share/doc/ddf/OLD.md"
+! "$work/unpacked/install" --remove "$work/with blank" 2>"$work/told" || fail "a page of another version stays unsaid"
+grep -q "share/doc/ddf stays, since it isn't empty" "$work/told" || fail "said $(cat "$work/told") of a page of another version"
 if "$work/unpacked/install" 2>/dev/null || "$work/unpacked/install" a b 2>/dev/null || "$work/unpacked/install" --help 2>/dev/null; then
     fail "wrong words are taken"
 fi
